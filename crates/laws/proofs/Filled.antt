@@ -1,0 +1,37 @@
+-- A loop that fills a list from the front, one place a turn: the invariant `Filled`, how it starts, goes on and ends.
+-- Assumes nothing.
+use mathlib.Core.Path.{_≡_, _∙_, sym, refl, ap, subst}
+use mathlib.Core.List.{List}
+use Prim.Native.Nat.{ℕ, _+_, _<_, _≤_}
+use native.Mathlib.Omega.{arith}
+use native.Mathlib.Decide.{ℕ-discrete}
+use lib.ListN.{length, getD, set, length-set}
+use lib.Seq.{getD-set-same, getD-set-other, ext-getD}
+use Rattle.laws.specs.Tabulate.{tabulate}
+use Rattle.laws.proofs.Tabulate.{length-tabulate, getD-tabulate}
+
+-- of the n places of l, the first i hold f
+pub record Filled {A : Type 0} (d : A) (f : ℕ → A) (n i : ℕ) (l : List A) : Type 0 where
+  pub long : length l ≡ n
+  pub upto : i ≤ n
+  pub here : (k : ℕ) → k < i → getD l k d ≡ f k
+
+module _ {A : Type 0} (d : A) (f : ℕ → A) (n : ℕ) where
+  pub filled-none : (l : List A) → length l ≡ n → Filled d f n 0 l
+  filled-none l e = record { long = e; upto = omega arith; here = λ k h. absurd (omega arith) }
+
+  pub filled-more : (i : ℕ) (l : List A) (v : A) → Filled d f n i l → i < n → v ≡ f i → Filled d f n (i + 1) (set l i v)
+  filled-more i l v p h e = record { long = length-set l i v ∙ p .long; upto = omega arith; here = here′ }
+    where
+      here″ : (k : ℕ) → k < i + 1 → Dec (k ≡ i) → getD (set l i v) k d ≡ f k
+      here″ k q (yes w) =
+          subst (λ (m : ℕ). getD (set l i v) m d ≡ f m) (sym w) (getD-set-same l i v d (omega (arith, p .long)) ∙ e)
+      here″ k q (no w) = getD-set-other l i k v d w ∙ p .here k (omega arith)
+
+      here′ : (k : ℕ) → k < i + 1 → getD (set l i v) k d ≡ f k
+      here′ k q = here″ k q (ℕ-discrete k i)
+
+  pub filled-all : (l : List A) → Filled d f n n l → l ≡ tabulate f n
+  filled-all l p =
+      ext-getD d l (tabulate f n) (p .long ∙ sym (length-tabulate f n))
+      (λ k h. p .here k (omega (arith, p .long)) ∙ sym (getD-tabulate f d n k (omega (arith, p .long))))

@@ -1,0 +1,5 @@
+pub mod Table
+pub mod Lowest
+pub mod Tabulate
+pub mod Filled
+pub mod Bits

@@ -1,0 +1,28 @@
+-- Lists given by their places, and the loop that fills one from the front.
+-- Assumes nothing.
+use mathlib.Core.Path.{_≡_, _∙_, sym, refl, ap, subst}
+use mathlib.Core.List.{List, [], _∷_}
+use Prim.Native.Nat.{ℕ, zero, suc, _+_, _<_, _≤_}
+use native.Mathlib.Omega.{arith}
+use native.Mathlib.Nat.{add-zero, add-suc, zero-add}
+use lib.ListN.{length, getD}
+use Rattle.laws.specs.Tabulate.{tabulateFrom, tabulate}
+
+module _ {A : Type 0} (f : ℕ → A) where
+  length-from : (i n : ℕ) → length (tabulateFrom i f n) ≡ n
+  unfolding tabulateFrom
+  length-from i zero = refl
+  length-from i (suc n) = ap suc (length-from (suc i) n)
+
+  pub length-tabulate : (n : ℕ) → length (tabulate f n) ≡ n
+  length-tabulate n = length-from 0 n
+
+  getD-from : (d : A) (n i k : ℕ) → k < n → getD (tabulateFrom i f n) k d ≡ f (i + k)
+  unfolding tabulateFrom
+  getD-from d zero i k h = absurd (omega arith)
+  getD-from d (suc n) i zero h = ap f (sym (add-zero i))
+  getD-from d (suc n) i (suc k) h = getD-from d n (suc i) k (omega arith) ∙ ap f (omega arith)
+
+  -- what stands at a place of it
+  pub getD-tabulate : (d : A) (n k : ℕ) → k < n → getD (tabulate f n) k d ≡ f k
+  getD-tabulate d n k h = getD-from d n 0 k h ∙ ap f (zero-add k)

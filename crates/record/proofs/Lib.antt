@@ -1,0 +1,4 @@
+pub mod Over
+pub mod Fields
+pub mod Laws
+pub mod Determined

@@ -1,0 +1,39 @@
+-- The fields of a record, by number (document 01, "The 144 places"; widths from 3.8.2).
+use mathlib.Core.Bool.{Bool, cond}
+use mathlib.Core.List.{List, [], _∷_}
+use Prim.Native.Nat.{ℕ, _-_, _^_}
+use lib.Dec.{leb, ltb, eqb}
+use lib.ListN.{getD, length}
+use Rattle.laws.specs.Lowest.{lowest}
+use Rattle.record.specs.declared.Record.{Record}
+
+-- how many bits each field has, field 1 first: LSP 1 to 10; PD, PG, CI, CG of subframes 1 to 4; SP; SY
+abbrev pub widths : List ℕ
+widths =
+    3 ∷ 4 ∷ 4 ∷ 4 ∷ 4 ∷ 3 ∷ 3 ∷ 3 ∷ 3 ∷ 3 ∷
+    8 ∷ 5 ∷ 9 ∷ 5 ∷ 6 ∷ 5 ∷ 9 ∷ 5 ∷ 8 ∷ 5 ∷ 9 ∷ 5 ∷ 6 ∷ 5 ∷ 9 ∷ 5 ∷ 1 ∷ 1 ∷ []
+
+-- the width of field i
+abbrev pub widthOf : ℕ → ℕ
+widthOf i = getD widths (i - 1) 0
+
+-- the index in field i
+abbrev pub indexOf : Record → ℕ → ℕ
+indexOf r i =
+    cond (leb i 10) (getD (r .lsp) (i - 1) 0) (cond (leb i 26) (getD (r .subframes) (i - 11) 0) (cond (eqb i 27) (r .sp) (r .sy)))
+
+-- the index in field i does not fit its width
+abbrev pub over : Record → ℕ → Bool
+over r i = leb (2 ^ widthOf i) (indexOf r i)
+
+-- the lowest field whose index is too large, or 0
+unfoldable pub tooLarge : Record → ℕ
+tooLarge r = lowest (over r) 28
+
+-- in a list of indices and a list of widths, place i counted from 1 has an index that does not fit
+abbrev pub overAt : List ℕ → List ℕ → ℕ → Bool
+overAt xs ws i = leb (2 ^ getD ws (i - 1) 0) (getD xs (i - 1) 0)
+
+-- the lowest such place, or 0
+unfoldable pub tooLong : List ℕ → List ℕ → ℕ
+tooLong xs ws = lowest (overAt xs ws) (length xs)
