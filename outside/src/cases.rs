@@ -1,0 +1,1016 @@
+//! Cases to compare answers on: frames, records, states, delays, and recordings sound and
+//! damaged in every way the documents name, alone and combined. Everything comes from a seeded
+//! generator (splitmix64), so the same seed always gives the same cases.
+
+use crate::delays::base;
+use crate::frame::{self, Record, FRAME_LENGTH};
+use crate::lsp::State;
+use crate::recording::{self, END, HEAD, HEADER_LENGTH, VOICE};
+use crate::refusal::Refusal;
+use crate::tables::{FIELDS, GUARDED, LSP, TWELFTHS, WIDTHS};
+
+pub type Frame = [u8; FRAME_LENGTH];
+
+/// A splitmix64 generator.
+#[derive(Clone, Debug)]
+pub struct Generator {
+    state: u64,
+}
+
+impl Generator {
+    pub fn new(seed: u64) -> Self {
+        Generator { state: seed }
+    }
+
+    #[allow(clippy::should_implement_trait)]
+    pub fn next(&mut self) -> u64 {
+        self.state = self.state.wrapping_add(0x9E37_79B9_7F4A_7C15);
+        let mut z = self.state;
+        z = (z ^ z >> 30).wrapping_mul(0xBF58_476D_1CE4_E5B9);
+        z = (z ^ z >> 27).wrapping_mul(0x94D0_49BB_1331_11EB);
+        z ^ z >> 31
+    }
+
+    /// A number from 0 to n - 1.
+    pub fn below(&mut self, n: usize) -> usize {
+        (self.next() % n as u64) as usize
+    }
+
+    fn one_of<T: Copy>(&mut self, all: &[T]) -> T {
+        all[self.below(all.len())]
+    }
+
+    pub fn bytes(&mut self, length: usize) -> Vec<u8> {
+        (0..length).map(|_| self.next() as u8).collect()
+    }
+
+    /// Any 18 bytes.
+    pub fn bytes18(&mut self) -> Frame {
+        std::array::from_fn(|_| self.next() as u8)
+    }
+
+    /// A record within its widths, in any order and with any SP.
+    fn record_within_widths(&mut self) -> Record {
+        Record {
+            fields: std::array::from_fn(|f| self.below(1 << WIDTHS[f]) as u16),
+        }
+    }
+
+    /// A record that the writer accepts.
+    pub fn record(&mut self) -> Record {
+        let mut record = self.record_within_widths();
+        let mut least = 0;
+        for (index, hz) in record.fields.iter_mut().zip(LSP) {
+            let lowest = hz.partition_point(|&hz| hz < least);
+            *index = (lowest + self.below(hz.len() - lowest)) as u16;
+            least = hz[usize::from(*index)];
+        }
+        record.fields[26] = 0;
+        record
+    }
+
+    /// A record whose LSPs fall somewhere, with SP 0.
+    pub fn falling_record(&mut self) -> Record {
+        loop {
+            let mut record = self.record_within_widths();
+            record.fields[26] = 0;
+            if record.order_mark() != 0 {
+                return record;
+            }
+        }
+    }
+
+    /// Any record: accepted, falling, with SP set, with indices too large, or several of these.
+    pub fn any_record(&mut self) -> Record {
+        let mut record = match self.below(4) {
+            0 => self.falling_record(),
+            1 => self.record_within_widths(),
+            _ => self.record(),
+        };
+        if self.below(8) == 0 {
+            record.fields[26] = 1;
+        }
+        if self.below(4) == 0 {
+            for _ in 0..1 + self.below(3) {
+                let field = self.below(FIELDS);
+                let past = 1 << WIDTHS[field];
+                let any = self.next() as u16;
+                record.fields[field] = self.one_of(&[past, past, past + 1, 65_535, any]);
+            }
+        }
+        record
+    }
+
+    /// Any state, ours or not.
+    pub fn state(&mut self) -> State {
+        let mut state = State {
+            hz: std::array::from_fn(|_| self.next() as u16),
+            fresh: false,
+        };
+        match self.below(8) {
+            0 => state.hz = [65_535; 10],
+            1 => state.hz = [0; 10],
+            2 => state.fresh = true,
+            _ => {}
+        }
+        state
+    }
+
+    /// Four delays in twelfths: mostly in the list, and subframes 2 and 4 mostly near their
+    /// windows.
+    pub fn delays(&mut self) -> [u32; 4] {
+        let mut before = 0;
+        std::array::from_fn(|n| {
+            let near = n % 2 == 1 && self.below(8) != 0;
+            let rank = if near {
+                (i32::from(base(before)) + self.below(70) as i32 - 3).clamp(0, 255) as u8
+            } else {
+                self.below(256) as u8
+            };
+            before = rank;
+            let delay = u32::from(TWELFTHS[usize::from(rank)]);
+            match self.below(40) {
+                0 => delay + 1,
+                1 => delay - 1,
+                2 => self.one_of(&[0, 239, 1765, 1776, 65_535, 65_536 + 240, u32::MAX]),
+                _ => delay,
+            }
+        })
+    }
+
+    /// A frame for a recording, with this SY unless it is a break.
+    pub fn frame(&mut self, sy: u16) -> Frame {
+        let mut record = self.record();
+        record.fields[27] = sy;
+        let mut frame = frame::lay(&record);
+        match self.below(16) {
+            0 => frame = self.bytes18(),
+            1 | 2 => frame::flip(&mut frame, self.one_of(&GUARDED)),
+            3 => {
+                let first = self.below(15);
+                let second = (first + 1 + self.below(14)) % 15;
+                frame::flip(&mut frame, GUARDED[first]);
+                frame::flip(&mut frame, GUARDED[second]);
+            }
+            4 => {
+                for _ in 0..1 + self.below(12) {
+                    frame::flip(&mut frame, 1 + self.below(144));
+                }
+            }
+            5 | 6 => {
+                record.fields[26] = 1;
+                frame = frame::lay(&record);
+                if self.below(2) == 0 {
+                    frame::flip(&mut frame, self.one_of(&GUARDED));
+                }
+            }
+            7 | 8 => {
+                record = self.falling_record();
+                record.fields[27] = sy;
+                record.fields[26] = (self.below(8) == 0).into();
+                frame = frame::lay(&record);
+            }
+            9 => frame::flip(&mut frame, 144),
+            10 => frame = self.one_of(&[[0; 18], [255; 18]]),
+            _ => {}
+        }
+        frame
+    }
+
+    /// The frames of a recording, in voice blocks.
+    fn voice(&mut self) -> Vec<Vec<Frame>> {
+        let frames = match self.below(100) {
+            0..=79 => 1 + self.below(12),
+            80..=97 => 13 + self.below(48),
+            _ => 200 + self.below(800),
+        };
+        let most_in_block = self.one_of(&[1, 2, 5, 20, 1000]);
+        let mut blocks = Vec::new();
+        let mut made = 0;
+        while made < frames {
+            let count = (1 + self.below(most_in_block)).min(frames - made);
+            blocks.push(
+                (made..made + count)
+                    .map(|k| self.frame((k % 2) as u16))
+                    .collect(),
+            );
+            made += count;
+        }
+        blocks
+    }
+}
+
+/// A block as it is put down: its length may say something else than its payload.
+#[derive(Clone, Debug)]
+struct Block {
+    length: u32,
+    kind: u16,
+    payload: Vec<u8>,
+}
+
+impl Block {
+    fn new(kind: u16, payload: Vec<u8>) -> Self {
+        Block {
+            length: payload.len() as u32,
+            kind,
+            payload,
+        }
+    }
+
+    fn head(unit: u32, number: u32) -> Self {
+        Block::new(HEAD, [unit.to_le_bytes(), number.to_le_bytes()].concat())
+    }
+
+    fn voice(frames: &[Frame]) -> Self {
+        Block::new(VOICE, frames.concat())
+    }
+
+    fn end(frames: u32) -> Self {
+        Block::new(END, frames.to_le_bytes().to_vec())
+    }
+
+    /// A block whose payload is zeros.
+    fn zeros(kind: u16, length: usize) -> Self {
+        Block::new(kind, vec![0; length])
+    }
+
+    fn saying(mut self, length: u32) -> Self {
+        self.length = length;
+        self
+    }
+}
+
+fn joined(blocks: &[Block]) -> Vec<u8> {
+    let mut bytes = Vec::new();
+    for block in blocks {
+        bytes.extend_from_slice(&block.length.to_le_bytes());
+        bytes.extend_from_slice(&block.kind.to_le_bytes());
+        bytes.extend_from_slice(&block.payload);
+    }
+    bytes
+}
+
+fn sound_blocks(unit: u32, number: u32, voice: &[impl AsRef<[Frame]>]) -> Vec<Block> {
+    let mut blocks = vec![Block::head(unit, number)];
+    let mut frames = 0;
+    for voice in voice {
+        blocks.push(Block::voice(voice.as_ref()));
+        frames += voice.as_ref().len() as u32;
+    }
+    blocks.push(Block::end(frames));
+    blocks
+}
+
+/// A sound recording of these voice blocks.
+pub fn sound(unit: u32, number: u32, voice: &[&[Frame]]) -> Vec<u8> {
+    joined(&sound_blocks(unit, number, voice))
+}
+
+/// The sample of the documents: unit 7, recording 1, one voice block of two frames; frame 1 is
+/// zero, frame 2 has only places 104 and 144 set.
+pub fn sample() -> Vec<u8> {
+    let mut second = [0; FRAME_LENGTH];
+    frame::flip(&mut second, 104);
+    frame::flip(&mut second, 144);
+    sound(7, 1, &[&[[0; FRAME_LENGTH], second]])
+}
+
+/// A recording at an edge, with the refusal it must get, or none.
+#[derive(Clone, Debug)]
+pub struct Edge {
+    pub name: String,
+    pub bytes: Vec<u8>,
+    pub refused: Option<Refusal>,
+}
+
+/// The named edges.
+pub fn edges() -> Vec<Edge> {
+    let mut edges = Edges(Vec::new());
+    edges.short();
+    edges.sound();
+    edges.sizes();
+    edges.kinds();
+    edges.turns();
+    edges.ends();
+    edges.lengths();
+    edges.limits();
+    edges.0
+}
+
+struct Edges(Vec<Edge>);
+
+/// The length of the head, and of the smallest sound recording up to its end block.
+const AFTER_HEAD: u32 = 14;
+const AFTER_VOICE: u32 = 38;
+const AFTER_END: u32 = 48;
+
+const ZERO: Frame = [0; FRAME_LENGTH];
+
+fn head() -> Block {
+    Block::head(7, 1)
+}
+
+fn voice() -> Block {
+    Block::voice(&[ZERO])
+}
+
+fn end() -> Block {
+    Block::end(1)
+}
+
+impl Edges {
+    fn sound_one(&mut self, name: &str, bytes: Vec<u8>) {
+        self.0.push(Edge {
+            name: name.to_string(),
+            bytes,
+            refused: None,
+        });
+    }
+
+    fn refused(&mut self, name: impl Into<String>, bytes: Vec<u8>, number: u8, at: u32) {
+        self.0.push(Edge {
+            name: name.into(),
+            bytes,
+            refused: Some(Refusal::new(number, at)),
+        });
+    }
+
+    fn short(&mut self) {
+        self.refused("empty", Vec::new(), 8, 0);
+        for length in 1..=5 {
+            self.refused(format!("{length} zeros"), vec![0; length], 7, 0);
+        }
+        self.refused("6 zeros", vec![0; 6], 8, 0);
+        for kind in [HEAD, VOICE, END] {
+            self.refused(
+                format!("only a header of kind {kind}"),
+                joined(&[Block::zeros(kind, 0)]),
+                7,
+                0,
+            );
+        }
+        self.refused(
+            "only a header, payload missing",
+            joined(&[Block::zeros(HEAD, 0).saying(8)]),
+            7,
+            0,
+        );
+        self.refused(
+            "only a header, kind 4",
+            joined(&[Block::zeros(4, 0).saying(1)]),
+            7,
+            0,
+        );
+        let whole = joined(&[head(), voice(), end()]);
+        for length in 1..whole.len() {
+            let (number, at) = match length {
+                14 => (8, AFTER_HEAD),
+                38 => (8, AFTER_VOICE),
+                1..=13 => (7, 0),
+                15..=37 => (7, AFTER_HEAD),
+                _ => (7, AFTER_VOICE),
+            };
+            self.refused(
+                format!("cut to {length} bytes"),
+                whole[..length].to_vec(),
+                number,
+                at,
+            );
+        }
+    }
+
+    fn sound(&mut self) {
+        self.sound_one("sample", sample());
+        self.sound_one("one frame", joined(&[head(), voice(), end()]));
+        self.sound_one(
+            "largest unit and number",
+            sound(u32::MAX, u32::MAX, &[&[[255; 18]]]),
+        );
+        let one_place = |place| {
+            let mut frame = ZERO;
+            frame::flip(&mut frame, place);
+            frame
+        };
+        let places: Vec<Frame> = (1..=144).map(one_place).collect();
+        self.sound_one("each place alone", sound(1, 2, &[&places]));
+        let mut g = Generator::new(16);
+        let written = frame::lay(&g.record());
+        let mut pairs = Vec::new();
+        for (at, &first) in GUARDED.iter().enumerate() {
+            let mut one = written;
+            frame::flip(&mut one, first);
+            pairs.push(one);
+            for &second in &GUARDED[at + 1..] {
+                let mut two = one;
+                frame::flip(&mut two, second);
+                pairs.push(two);
+            }
+        }
+        self.sound_one(
+            "one and two guarded flips",
+            sound(2, 3, &[&pairs[..60], &pairs[60..]]),
+        );
+        let mut expansion = Vec::new();
+        for _ in 0..16 {
+            let mut record = g.record();
+            record.fields[26] = 1;
+            expansion.push(frame::lay(&record));
+        }
+        for c in 1..=15 {
+            frame::flip(&mut expansion[c], GUARDED[c - 1]);
+        }
+        self.sound_one(
+            "expansion bit set, and repaired",
+            sound(3, 4, &[&expansion]),
+        );
+        let mut state_kept = vec![
+            frame::lay(&g.record()),
+            expansion[0],
+            frame::lay(&g.record()),
+        ];
+        state_kept.extend([expansion[7], expansion[9], frame::lay(&g.record())]);
+        self.sound_one(
+            "state kept over refused frames",
+            sound(4, 5, &[&state_kept[..2], &state_kept[2..]]),
+        );
+        self.sound_one(
+            "first frame refused",
+            sound(5, 6, &[&expansion[..1], &state_kept[..1]]),
+        );
+        let falling: Vec<Frame> = (0..40).map(|_| frame::lay(&g.falling_record())).collect();
+        self.sound_one("falling parameters", sound(6, 7, &[&falling]));
+        let mut last_pair = Record::ZERO;
+        last_pair.fields[..10].copy_from_slice(&[0, 0, 0, 12, 9, 0, 0, 7, 3, 0]);
+        let mut frames = vec![frame::lay(&last_pair)];
+        last_pair.fields[4] = 8;
+        frames.push(frame::lay(&last_pair));
+        self.sound_one("equal parameters, then a fall", sound(6, 8, &[&frames]));
+        let mut delays = Vec::new();
+        for byte in 0..256 {
+            let mut record = Record::ZERO;
+            record.fields[10] = byte;
+            record.fields[14] = byte % 64;
+            record.fields[18] = 255 - byte;
+            record.fields[22] = 63 - byte % 64;
+            record.fields[27] = byte % 2;
+            delays.push(frame::lay(&record));
+        }
+        self.sound_one("every delay byte", sound(8, 9, &[&delays]));
+    }
+
+    fn sizes(&mut self) {
+        for size in [0, 1, 7, 9, 16, 18] {
+            let bytes = joined(&[Block::zeros(HEAD, size), voice(), end()]);
+            self.refused(format!("head of {size}"), bytes, 7, 0);
+        }
+        for size in [0, 1, 8, 17, 19, 35, 37] {
+            let bytes = joined(&[head(), Block::zeros(VOICE, size), end()]);
+            self.refused(format!("voice of {size}"), bytes, 7, AFTER_HEAD);
+            let bytes = joined(&[head(), voice(), Block::zeros(VOICE, size), end()]);
+            self.refused(format!("second voice of {size}"), bytes, 7, AFTER_VOICE);
+        }
+        for size in [0, 3, 5, 8, 18] {
+            let bytes = joined(&[head(), voice(), Block::zeros(END, size)]);
+            self.refused(format!("end of {size}"), bytes, 7, AFTER_VOICE);
+        }
+    }
+
+    fn kinds(&mut self) {
+        for kind in [0, 4, 256, 512, 768, 0x0102, 65_535] {
+            let strange = |size| Block::zeros(kind, size);
+            let name = |place: &str| format!("kind {kind} {place}");
+            self.refused(name("first"), joined(&[strange(8), voice(), end()]), 8, 0);
+            self.refused(
+                name("for voice"),
+                joined(&[head(), strange(18), end()]),
+                8,
+                AFTER_HEAD,
+            );
+            self.refused(
+                name("of no bytes"),
+                joined(&[head(), strange(0), voice(), end()]),
+                8,
+                AFTER_HEAD,
+            );
+            self.refused(
+                name("of odd size"),
+                joined(&[head(), voice(), strange(7), end()]),
+                8,
+                AFTER_VOICE,
+            );
+            self.refused(
+                name("for the end"),
+                joined(&[head(), voice(), strange(4)]),
+                8,
+                AFTER_VOICE,
+            );
+            let past = strange(4).saying(5);
+            self.refused(
+                name("past the end"),
+                joined(&[head(), voice(), past]),
+                7,
+                AFTER_VOICE,
+            );
+            let mut cut = joined(&[head(), voice(), strange(0)]);
+            cut.pop();
+            self.refused(name("cut"), cut, 7, AFTER_VOICE);
+        }
+    }
+
+    fn turns(&mut self) {
+        self.refused("no head", joined(&[voice(), end()]), 8, 0);
+        self.refused("only an end", joined(&[Block::end(0)]), 8, 0);
+        self.refused(
+            "end and then all",
+            joined(&[Block::end(0), head(), voice(), end()]),
+            8,
+            0,
+        );
+        self.refused(
+            "voice before the head",
+            joined(&[voice(), head(), end()]),
+            8,
+            0,
+        );
+        self.refused(
+            "head twice",
+            joined(&[head(), head(), voice(), end()]),
+            8,
+            AFTER_HEAD,
+        );
+        self.refused(
+            "head after voice",
+            joined(&[head(), voice(), head(), end()]),
+            8,
+            AFTER_VOICE,
+        );
+        for number in [0, 1, 65_535] {
+            let bytes = joined(&[head(), Block::end(number)]);
+            self.refused(format!("no voice, end of {number}"), bytes, 8, AFTER_HEAD);
+        }
+        self.refused(
+            "end before voice",
+            joined(&[head(), Block::end(0), voice(), end()]),
+            8,
+            AFTER_HEAD,
+        );
+        // On one block 7 comes before 8.
+        self.refused(
+            "second head of 7",
+            joined(&[head(), Block::zeros(HEAD, 7), voice(), end()]),
+            7,
+            AFTER_HEAD,
+        );
+        self.refused(
+            "end of 5 before voice",
+            joined(&[head(), Block::zeros(END, 5)]),
+            7,
+            AFTER_HEAD,
+        );
+        self.refused(
+            "end of 3 first",
+            joined(&[Block::zeros(END, 3), head(), voice(), end()]),
+            7,
+            0,
+        );
+        self.refused(
+            "voice of 17 first",
+            joined(&[Block::zeros(VOICE, 17), head(), end()]),
+            7,
+            0,
+        );
+        self.refused(
+            "voice of 0 first",
+            joined(&[Block::zeros(VOICE, 0), head(), end()]),
+            7,
+            0,
+        );
+        self.refused(
+            "second head past the end",
+            joined(&[head(), head().saying(9)]),
+            7,
+            AFTER_HEAD,
+        );
+        // But an earlier block's 8 comes before a later one's 7.
+        self.refused(
+            "8 and then 7",
+            joined(&[head(), head(), Block::zeros(VOICE, 17)]),
+            8,
+            AFTER_HEAD,
+        );
+        self.refused(
+            "7 and then 8",
+            joined(&[head(), Block::zeros(VOICE, 17), head()]),
+            7,
+            AFTER_HEAD,
+        );
+    }
+
+    fn ends(&mut self) {
+        self.refused("no end", joined(&[head(), voice()]), 8, AFTER_VOICE);
+        self.refused(
+            "no end, two voices",
+            joined(&[head(), voice(), voice()]),
+            8,
+            AFTER_VOICE + 24,
+        );
+        for number in [0, 2, 18, 256, 65_537, 0x0100_0000, 0x8000_0001, u32::MAX] {
+            let blocks = [head(), voice(), Block::end(number)];
+            let mut bytes = joined(&blocks);
+            self.refused(
+                format!("end's number {number}"),
+                bytes.clone(),
+                8,
+                AFTER_VOICE,
+            );
+            bytes.push(0);
+            self.refused(
+                format!("end's number {number} and a byte"),
+                bytes,
+                8,
+                AFTER_VOICE,
+            );
+        }
+        let whole = joined(&[head(), voice(), end()]);
+        for extra in [1, 2, 5, 6, 7, 10, 100] {
+            for byte in [0, 255] {
+                let mut bytes = whole.clone();
+                bytes.resize(whole.len() + extra, byte);
+                self.refused(
+                    format!("{extra} bytes of {byte} after the end"),
+                    bytes,
+                    8,
+                    AFTER_END,
+                );
+            }
+        }
+        self.refused(
+            "two recordings",
+            [whole.clone(), whole].concat(),
+            8,
+            AFTER_END,
+        );
+        self.refused(
+            "end twice",
+            joined(&[head(), voice(), end(), end()]),
+            8,
+            AFTER_END,
+        );
+        self.refused(
+            "voice after the end",
+            joined(&[head(), voice(), end(), voice()]),
+            8,
+            AFTER_END,
+        );
+        let mut cut = joined(&[head(), voice(), end(), end()]);
+        cut.truncate(AFTER_END as usize + 3);
+        self.refused("a cut header after the end", cut, 8, AFTER_END);
+    }
+
+    fn lengths(&mut self) {
+        // 4,294,967,292 is a multiple of 18; 4,294,967,290 with the header wraps to 0.
+        for length in [
+            u32::MAX,
+            4_294_967_292,
+            4_294_967_290,
+            4_294_967_284,
+            0x8000_0000,
+            0x7FFF_FFFF,
+            65_536,
+        ] {
+            let name = |place: &str| format!("length {length} {place}");
+            self.refused(
+                name("of the head"),
+                joined(&[head().saying(length), voice(), end()]),
+                7,
+                0,
+            );
+            self.refused(
+                name("of a voice"),
+                joined(&[head(), voice().saying(length), end()]),
+                7,
+                AFTER_HEAD,
+            );
+            self.refused(
+                name("of the end"),
+                joined(&[head(), voice(), end().saying(length)]),
+                7,
+                AFTER_VOICE,
+            );
+            let strange = Block::zeros(9, 4).saying(length);
+            self.refused(
+                name("of kind 9"),
+                joined(&[head(), voice(), strange]),
+                7,
+                AFTER_VOICE,
+            );
+        }
+        self.refused(
+            "voice past the end",
+            joined(&[head(), voice().saying(36), end()]),
+            7,
+            AFTER_HEAD,
+        );
+        self.refused(
+            "voice past the end by one",
+            joined(&[head(), voice().saying(29), end()]),
+            7,
+            AFTER_HEAD,
+        );
+        self.refused(
+            "voice over the end",
+            joined(&[head(), voice().saying(28), end()]),
+            7,
+            AFTER_HEAD,
+        );
+        self.refused(
+            "end past the end by one",
+            joined(&[head(), voice(), end().saying(5)]),
+            7,
+            AFTER_VOICE,
+        );
+        self.refused(
+            "head shortened",
+            joined(&[Block::zeros(HEAD, 8).saying(0), voice(), end()]),
+            7,
+            0,
+        );
+        // The eighteen zeros left over are then read as a header of kind 0.
+        let blocks = [
+            head(),
+            Block::voice(&[ZERO, ZERO]).saying(18),
+            Block::end(2),
+        ];
+        self.refused("voice shortened", joined(&blocks), 8, AFTER_VOICE);
+        // A voice block can swallow the end block and what follows it.
+        let blocks = [
+            head(),
+            voice().saying(36),
+            end(),
+            Block::zeros(9, 2),
+            Block::end(2),
+        ];
+        self.sound_one("end swallowed by a voice", joined(&blocks));
+        let swapped = joined(&[head().saying(8u32.swap_bytes()), voice(), end()]);
+        self.refused("length with its bytes turned", swapped, 7, 0);
+    }
+
+    fn limits(&mut self) {
+        let mut g = Generator::new(65_536);
+        let frames: Vec<Frame> = (0..3640).map(|k| g.frame(k % 2)).collect();
+        let most = sound(7, 2, &[&frames[..3639]]);
+        let length = most.len() as u32;
+        let longer = |extra: usize| {
+            let mut bytes = most.clone();
+            bytes.resize(most.len() + extra, 0);
+            bytes
+        };
+        self.sound_one("the most frames", most.clone());
+        self.refused("65,536 bytes, four too many", longer(4), 8, length);
+        self.refused("65,537 bytes", longer(5), 1, 0);
+        self.refused("one frame more than fits", sound(7, 3, &[&frames]), 1, 0);
+        self.refused("65,536 zeros", vec![0; 65_536], 8, 0);
+        self.refused("65,537 zeros", vec![0; 65_537], 1, 0);
+        self.refused("65,537 bytes of 255", vec![255; 65_537], 1, 0);
+        self.refused(
+            "65,536 bytes, kind 9",
+            joined(&[head(), Block::zeros(9, 65_516)]),
+            8,
+            AFTER_HEAD,
+        );
+        self.refused(
+            "65,536 bytes, voice size wrong",
+            joined(&[head(), Block::zeros(VOICE, 65_516)]),
+            7,
+            AFTER_HEAD,
+        );
+        let three = [
+            head(),
+            Block::voice(&frames[..9]),
+            Block::voice(&frames[9..10]),
+            Block::voice(&frames[10..3639]),
+        ];
+        let mut cut = joined(&three);
+        let at = cut.len() as u32;
+        self.refused("end missing near the limit", cut.clone(), 8, at);
+        cut.extend_from_slice(&[4, 0]);
+        self.refused("65,536 bytes, header cut", cut, 7, at);
+        let most_blocks: Vec<&[Frame]> = frames[..2729].chunks(1).collect();
+        self.sound_one("the most voice blocks", sound(7, 4, &most_blocks));
+        let mut blocks = sound_blocks(7, 5, &most_blocks);
+        blocks.pop();
+        let at = 14 + 24 * 2729;
+        self.refused("the most voice blocks, no end", joined(&blocks), 8, at);
+        blocks.push(Block::end(2728));
+        self.refused(
+            "the most voice blocks, wrong number",
+            joined(&blocks),
+            8,
+            at,
+        );
+        let small: Vec<&[Frame]> = frames[..300].chunks(1).collect();
+        self.sound_one("many small voice blocks", sound(7, 6, &small));
+    }
+}
+
+/// One damage to the blocks of a recording.
+fn damage_blocks(g: &mut Generator, blocks: &mut Vec<Block>) {
+    if blocks.is_empty() {
+        blocks.push(Block::end(0));
+    }
+    let at = g.below(blocks.len());
+    let between = g.below(blocks.len() + 1);
+    match g.below(16) {
+        0 => {
+            let size = blocks[at].payload.len();
+            let sizes = [0, 1, 3, 5, 7, 9, 17, 19, size + 1, size.saturating_sub(1)];
+            let filling = g.next() as u8;
+            let size = g.one_of(&sizes);
+            blocks[at].payload.resize(size, filling);
+            blocks[at].length = size as u32;
+        }
+        1 => blocks[at].kind = g.one_of(&[0, 4, 5, 256, 512, 768, 65_535]),
+        2 => {
+            blocks.remove(0);
+        }
+        3 => {
+            let head = Block::head(g.next() as u32, g.next() as u32);
+            blocks.insert(between, head);
+        }
+        4 => {
+            blocks.pop();
+        }
+        5 => {
+            let frames = blocks[..between].iter().filter(|block| block.kind == VOICE);
+            let frames = frames
+                .map(|block| block.payload.len() / FRAME_LENGTH)
+                .sum::<usize>() as u32;
+            let number = g.one_of(&[frames, frames, frames + 1, 0]);
+            blocks.insert(between, Block::end(number));
+        }
+        6 => blocks.retain(|block| block.kind != VOICE),
+        7 => {
+            let any = g.next() as u32;
+            let off = g.one_of(&[1, u32::MAX, 18, 65_536, 0x8000_0000, any]);
+            if let Some(Block {
+                kind: END, payload, ..
+            }) = blocks.last_mut()
+            {
+                if let Some(number) = payload.first_chunk_mut() {
+                    *number = u32::from_le_bytes(*number).wrapping_add(off).to_le_bytes();
+                }
+            }
+        }
+        8 => {
+            let said = blocks[at].length;
+            let any = g.next() as u32;
+            let lies = [
+                said.wrapping_add(1),
+                said.wrapping_sub(1),
+                said.wrapping_add(18),
+                said.wrapping_sub(18),
+                said.swap_bytes(),
+                u32::MAX,
+                4_294_967_290,
+                4_294_967_292,
+                65_536,
+                any,
+            ];
+            blocks[at].length = g.one_of(&lies);
+        }
+        9 => {
+            let other = g.below(blocks.len());
+            blocks.swap(at, other);
+        }
+        10 => {
+            let kind = g.one_of(&[0, 4, 9, 256, 65_535]);
+            let size = g.below(30);
+            let payload = g.bytes(size);
+            blocks.insert(between, Block::new(kind, payload));
+        }
+        11 => blocks.insert(between, Block::zeros(VOICE, 0)),
+        12 => blocks[at].kind = g.one_of(&[HEAD, VOICE, END]),
+        13 => blocks.insert(between, blocks[at].clone()),
+        14 => {
+            let frame = g.frame(0);
+            blocks.insert(between, Block::voice(&[frame]));
+        }
+        _ => {
+            blocks.remove(at);
+        }
+    }
+}
+
+/// One damage to the bytes of a recording.
+fn damage_bytes(g: &mut Generator, bytes: &mut Vec<u8>) {
+    let at = g.below(bytes.len() + 1);
+    match g.below(8) {
+        0 => bytes.truncate(at),
+        1 | 2 => {
+            // A cut at a block's first byte, or in its header.
+            let mut starts = vec![0];
+            let mut start = 0;
+            while let Some(header) = bytes
+                .get(start..)
+                .and_then(|rest| rest.first_chunk::<HEADER_LENGTH>())
+            {
+                let length = u32::from_le_bytes([header[0], header[1], header[2], header[3]]);
+                start += HEADER_LENGTH + length as usize;
+                starts.push(start);
+            }
+            bytes.truncate(g.one_of(&starts) + g.below(6));
+        }
+        3 => {
+            let extra = 1 + g.below(30);
+            if g.below(2) == 0 {
+                bytes.resize(bytes.len() + extra, 0);
+            } else {
+                bytes.extend(g.bytes(extra));
+            }
+        }
+        4 => bytes.extend(joined(&[head(), voice(), end()])),
+        5 => {
+            for _ in 0..1 + g.below(8) {
+                let at = g.below(bytes.len().max(1));
+                if let Some(byte) = bytes.get_mut(at) {
+                    *byte ^= 1 << g.below(8);
+                }
+            }
+        }
+        6 => {
+            let count = 1 + g.below(20);
+            let inserted = g.bytes(count);
+            bytes.splice(at..at, inserted);
+        }
+        _ => {
+            let to = (at + 1 + g.below(20)).min(bytes.len());
+            bytes.drain(at..to);
+        }
+    }
+}
+
+/// The n-th recording of a seed beyond the edges: sound if n is odd, else damaged until it is
+/// refused.
+pub fn recording(seed: u64, n: u64) -> Vec<u8> {
+    let mut g = Generator::new(seed);
+    let mut g = Generator::new(g.next() ^ n);
+    let unit = g.next() as u32 >> g.below(32);
+    let number = g.next() as u32 >> g.below(32);
+    let voice = g.voice();
+    let mut blocks = sound_blocks(unit, number, &voice);
+    if n % 2 == 1 {
+        return joined(&blocks);
+    }
+    loop {
+        let (of_blocks, of_bytes) =
+            g.one_of(&[(1, 0), (1, 0), (0, 1), (2, 0), (1, 1), (0, 2), (3, 1)]);
+        for _ in 0..of_blocks {
+            damage_blocks(&mut g, &mut blocks);
+        }
+        let mut bytes = joined(&blocks);
+        for _ in 0..of_bytes {
+            damage_bytes(&mut g, &mut bytes);
+        }
+        if recording::read(&bytes).is_err() {
+            return bytes;
+        }
+    }
+}
+
+#[cfg(test)]
+mod tests {
+    use super::*;
+
+    #[test]
+    fn the_generator_is_splitmix64() {
+        let mut g = Generator::new(0);
+        assert_eq!(g.next(), 0xE220_A839_7B1D_CDAF);
+        assert_eq!(g.next(), 0x6E78_9E6A_A1B9_65F4);
+    }
+
+    #[test]
+    fn records_are_of_the_kinds_said() {
+        let mut g = Generator::new(11);
+        for _ in 0..5_000 {
+            assert!(frame::write(&g.record()).is_ok());
+            assert_eq!(frame::write(&g.falling_record()).unwrap_err().number, 3);
+        }
+        let mut refused = [0; 7];
+        for _ in 0..5_000 {
+            if let Err(refusal) = frame::write(&g.any_record()) {
+                refused[usize::from(refusal.number)] += 1;
+            }
+        }
+        assert!(
+            refused[2] > 500 && refused[3] > 500 && refused[6] > 100,
+            "{refused:?}"
+        );
+    }
+
+    #[test]
+    fn the_same_seed_gives_the_same_recording() {
+        assert_eq!(recording(4, 10), recording(4, 10));
+        assert_ne!(recording(4, 11), recording(4, 13));
+        assert_ne!(recording(4, 11), recording(5, 11));
+    }
+}

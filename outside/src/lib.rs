@@ -1,0 +1,19 @@
+//! 4,800 bit/s voice frames and recordings: Federal Standard 1016 with the house rules.
+//! It follows the documents alone and shares no code with the program whose answers are
+//! compared with its own.
+
+pub mod cases;
+pub mod codes;
+pub mod delays;
+pub mod draws;
+pub mod frame;
+pub mod gains;
+pub mod hear;
+pub mod listing;
+pub mod lsp;
+pub mod numbers;
+pub mod recording;
+pub mod refusal;
+pub mod tables;
+pub mod text;
+pub mod values;

@@ -1,0 +1,78 @@
+//! The command line over the library: tables, numbers, listings, hearings and cases.
+
+use outside::{cases, hear, listing, numbers, recording, tables};
+use std::fs;
+use std::io::{self, Read, Write};
+use std::path::Path;
+use std::process::ExitCode;
+
+const USAGE: &str =
+    "usage: outside tables | numbers | fours | sample | list | hear | recordings DIR N SEED";
+
+/// Recordings longer than this get no `.hear` file.
+const LONGEST_HEARD: usize = 20_000;
+
+fn main() -> ExitCode {
+    let arguments: Vec<String> = std::env::args().skip(1).collect();
+    let words: Vec<&str> = arguments.iter().map(String::as_str).collect();
+    let done = match words[..] {
+        ["tables"] => print(&tables::text()),
+        ["numbers"] => print(numbers::text().as_bytes()),
+        ["fours"] => print(numbers::fours().as_bytes()),
+        ["sample"] => print(&cases::sample()),
+        ["list"] => input().and_then(|recording| print(&listing::list(&recording))),
+        ["hear"] => input().and_then(|recording| print(&hear::hear(&recording))),
+        ["recordings", folder, count, seed] => match (count.parse(), seed.parse()) {
+            (Ok(count), Ok(seed)) => recordings(Path::new(folder), count, seed),
+            _ => return usage(),
+        },
+        _ => return usage(),
+    };
+    match done {
+        Ok(()) => ExitCode::SUCCESS,
+        Err(error) => {
+            eprintln!("outside: {error}");
+            ExitCode::FAILURE
+        }
+    }
+}
+
+fn usage() -> ExitCode {
+    eprintln!("{USAGE}");
+    ExitCode::from(2)
+}
+
+fn print(bytes: &[u8]) -> io::Result<()> {
+    let mut out = io::stdout().lock();
+    out.write_all(bytes)?;
+    out.flush()
+}
+
+/// Standard input, as far as one byte past the longest recording.
+fn input() -> io::Result<Vec<u8>> {
+    let mut bytes = Vec::with_capacity(recording::LONGEST + 1);
+    io::stdin()
+        .lock()
+        .take(recording::LONGEST as u64 + 1)
+        .read_to_end(&mut bytes)?;
+    Ok(bytes)
+}
+
+/// Writes recordings with their listings and what is heard in them: the edges first.
+fn recordings(folder: &Path, count: usize, seed: u64) -> io::Result<()> {
+    fs::create_dir_all(folder)?;
+    let mut edges = cases::edges().into_iter();
+    for n in 0..count {
+        let bytes = match edges.next() {
+            Some(edge) => edge.bytes,
+            None => cases::recording(seed, n as u64),
+        };
+        let file = |ending: &str| folder.join(format!("{n:05}.{ending}"));
+        fs::write(file("rec"), &bytes)?;
+        fs::write(file("list"), listing::list(&bytes))?;
+        if bytes.len() <= LONGEST_HEARD {
+            fs::write(file("hear"), hear::hear(&bytes))?;
+        }
+    }
+    Ok(())
+}

@@ -1,0 +1,23 @@
+//! Refusals: what is refused gets a number, and with it the field, mark, subframe or place
+//! that the number tells of (0 where it tells nothing).
+
+#[derive(Clone, Copy, Debug, PartialEq, Eq)]
+pub struct Refusal {
+    pub number: u8,
+    pub tells: u32,
+}
+
+impl Refusal {
+    pub const fn new(number: u8, tells: u32) -> Self {
+        Refusal { number, tells }
+    }
+
+    /// Refusal 1: a buffer or recording of the wrong length.
+    pub const LENGTH: Refusal = Refusal::new(1, 0);
+
+    /// Refusal 2 of an index that stands alone.
+    pub const LONE_INDEX: Refusal = Refusal::new(2, 0);
+
+    /// Refusal 6: the expansion bit is set.
+    pub const EXPANSION: Refusal = Refusal::new(6, 0);
+}

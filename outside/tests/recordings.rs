@@ -1,0 +1,264 @@
+//! Recordings: every edge with its refusal, a second reader written another way, the listing
+//! and the hearing against what the parts say, and what the generator makes.
+
+use outside::cases::{self, Generator};
+use outside::recording::{self, answer, voice_block};
+use outside::refusal::Refusal;
+use outside::{hear, listing};
+use std::collections::BTreeSet;
+
+/// A second reader, over a list of blocks cut beforehand as far as they can be cut.
+fn second_reader(bytes: &[u8]) -> Option<Refusal> {
+    if bytes.len() > 65_536 {
+        return Some(Refusal::new(1, 0));
+    }
+    let mut blocks: Vec<(u64, u64, u64)> = Vec::new(); // place, length, kind
+    let mut at = 0;
+    let total = bytes.len() as u64;
+    let le = |from: u64, count: u64| {
+        (from..from + count)
+            .rev()
+            .fold(0, |sum, at| sum * 256 + u64::from(bytes[at as usize]))
+    };
+    while at + 6 <= total && at + 6 + le(at, 4) <= total {
+        blocks.push((at, le(at, 4), le(at + 4, 2)));
+        at += 6 + le(at, 4);
+    }
+    let cut = at;
+    let mut frames = 0;
+    for (n, &(at, length, kind)) in blocks.iter().enumerate() {
+        let size_right = match kind {
+            1 => length == 8,
+            2 => length > 0 && length.is_multiple_of(18),
+            3 => length == 4,
+            _ => true,
+        };
+        if !size_right {
+            return Some(Refusal::new(7, at as u32));
+        }
+        let in_turn = match kind {
+            1 => n == 0,
+            2 => n > 0,
+            3 => n > 1,
+            _ => false,
+        };
+        if !in_turn || (kind == 3 && le(at + 6, 4) != frames) {
+            return Some(Refusal::new(8, at as u32));
+        }
+        frames += length / 18;
+        if kind == 3 {
+            return (at + 10 < total).then_some(Refusal::new(8, at as u32 + 10));
+        }
+    }
+    Some(Refusal::new(if cut == total { 8 } else { 7 }, cut as u32))
+}
+
+#[test]
+fn every_edge_gets_its_refusal() {
+    let edges = cases::edges();
+    let mut names = BTreeSet::new();
+    for edge in &edges {
+        assert!(names.insert(&edge.name), "{} twice", edge.name);
+        assert_eq!(answer(&edge.bytes).err(), edge.refused, "{}", edge.name);
+        assert_eq!(second_reader(&edge.bytes), edge.refused, "{}", edge.name);
+        if let Some(Refusal { number, tells }) = edge.refused {
+            let place = if number == 1 { 65_536 } else { tells };
+            let line = format!("refused {number} at {place}\n");
+            assert_eq!(listing::list(&edge.bytes), line.as_bytes(), "{}", edge.name);
+            assert_eq!(hear::hear(&edge.bytes), line.as_bytes(), "{}", edge.name);
+            assert!(voice_block(&edge.bytes, 0).is_empty(), "{}", edge.name);
+        }
+    }
+    let lengths: BTreeSet<usize> = edges.iter().map(|edge| edge.bytes.len()).collect();
+    for length in [0, 5, 6, 65_532, 65_536, 65_537] {
+        assert!(lengths.contains(&length), "no edge of {length} bytes");
+    }
+}
+
+#[test]
+fn the_most_that_fits() {
+    let edges = cases::edges();
+    let edge = |name: &str| &edges.iter().find(|edge| edge.name == name).unwrap().bytes[..];
+    let most = answer(edge("the most frames")).unwrap();
+    assert_eq!((most.frames, edge("the most frames").len()), (3639, 65_532));
+    assert_eq!(voice_block(edge("the most frames"), 0).len(), 3639 * 18);
+    assert!(voice_block(edge("the most frames"), 1).is_empty());
+    let blocks = edge("the most voice blocks");
+    assert_eq!(answer(blocks).unwrap().frames, 2729);
+    assert_eq!(
+        voice_block(blocks, 2728),
+        &blocks[blocks.len() - 28..blocks.len() - 10]
+    );
+    assert!(voice_block(blocks, 2729).is_empty());
+}
+
+#[test]
+fn generated_recordings_are_refused_as_a_second_reader_says() {
+    let mut causes = BTreeSet::new();
+    let mut refused = 0;
+    for n in 0..6_000 {
+        let bytes = cases::recording(99, n);
+        let answer = answer(&bytes);
+        assert_eq!(answer.err(), second_reader(&bytes), "recording {n}");
+        assert_eq!(answer.is_ok(), n % 2 == 1);
+        if let Err(refusal) = answer {
+            refused += 1;
+            causes.insert((refusal.number, refusal.tells.min(39)));
+        }
+    }
+    assert_eq!(refused, 3_000);
+    for cause in [
+        (7, 0),
+        (7, 14),
+        (7, 38),
+        (7, 39),
+        (8, 0),
+        (8, 14),
+        (8, 38),
+        (8, 39),
+    ] {
+        assert!(causes.contains(&cause), "no recording refused {cause:?}");
+    }
+}
+
+#[test]
+fn any_bytes_get_an_answer() {
+    let mut g = Generator::new(31);
+    for _ in 0..20_000 {
+        let length = g.below(80);
+        let mut bytes = g.bytes(length);
+        // Small numbers, so that some get past the first header.
+        for byte in bytes.iter_mut() {
+            *byte = [0, 0, 0, 1, 2, 3, 8, 18, *byte][g.below(9)];
+        }
+        assert_eq!(
+            recording::read(&bytes).err(),
+            second_reader(&bytes),
+            "{bytes:?}"
+        );
+    }
+}
+
+#[test]
+fn one_changed_header_byte_is_answered_as_a_second_reader_says() {
+    let mut g = Generator::new(32);
+    let frames = [g.frame(0), g.frame(1), g.frame(0)];
+    let sound = cases::sound(5, 6, &[&frames[..1], &frames[1..]]);
+    let mut refused = 0;
+    for at in 0..sound.len() {
+        for byte in 0..=255 {
+            let mut bytes = sound.clone();
+            bytes[at] = byte;
+            let read = recording::read(&bytes);
+            assert_eq!(read.err(), second_reader(&bytes), "byte {at} is {byte}");
+            refused += usize::from(read.is_err());
+        }
+    }
+    // Headers (6 bytes each) and the end's number: any other value is refused.
+    assert_eq!(refused, 255 * (4 * 6 + 4));
+}
+
+/// A listing made from the hearing of the same recording.
+fn listing_from_hearing(bytes: &[u8]) -> String {
+    let heard = String::from_utf8(hear::hear(bytes)).unwrap();
+    let answer = answer(bytes).unwrap();
+    let outside::recording::Answer {
+        unit,
+        number,
+        frames,
+        ..
+    } = answer;
+    let mut lines = format!("unit {unit} recording {number} frames {frames}\n");
+    let (mut repaired, mut breaks) = (0, 0);
+    for line in heard.lines().filter(|line| line.starts_with("frame ")) {
+        let words: Vec<&str> = line.split(' ').collect();
+        let (k, sy) = (words[1], words[29]);
+        assert_eq!((words[30], words[32]), ("number", "mark"));
+        let (number, mark) = (words[31], words[33]);
+        repaired += u32::from(number != "0");
+        breaks += u32::from((k.parse::<u32>().unwrap() % 2 == 1) != (sy == "0"));
+        if words[34] == "refused" {
+            assert_eq!(words[28], "1");
+            assert_eq!(words[35..], ["6"]);
+            lines.push_str(&format!("{k} {number} refused 6\n"));
+        } else {
+            assert_eq!((words[28], words[34], words[43]), ("0", "gains", "delays"));
+            assert_eq!(
+                (words[48], words[89], words.len()),
+                ("averages", "state", 100)
+            );
+            let delays = words[44..48].join(" ");
+            lines.push_str(&format!("{k} {number} {mark} {sy} {delays}\n"));
+        }
+    }
+    assert_eq!((answer.repaired, answer.breaks), (repaired, breaks));
+    lines.push_str(&format!("repaired {repaired} breaks {breaks}\n"));
+    lines
+}
+
+#[test]
+fn listing_and_hearing_agree() {
+    let (mut refused, mut marked, mut repaired) = (0, 0, 0);
+    for n in (1..800).step_by(2) {
+        let bytes = cases::recording(7, n);
+        let listing = String::from_utf8(listing::list(&bytes)).unwrap();
+        assert_eq!(listing, listing_from_hearing(&bytes), "recording {n}");
+        for heard in recording::read(&bytes).unwrap().heard() {
+            refused += usize::from(heard.values.is_err());
+            marked += usize::from(heard.reading.mark != 0);
+            repaired += usize::from(heard.reading.number != 0);
+        }
+    }
+    assert!(
+        refused > 100 && marked > 100 && repaired > 100,
+        "{refused} {marked} {repaired}"
+    );
+}
+
+#[test]
+fn hearing_names_every_voice_block_and_one_past() {
+    for n in (1..400).step_by(2) {
+        let bytes = cases::recording(8, n);
+        let heard = String::from_utf8(hear::hear(&bytes)).unwrap();
+        let blocks: Vec<&str> = heard
+            .lines()
+            .filter(|line| line.starts_with("block "))
+            .collect();
+        for (k, line) in blocks.iter().enumerate() {
+            let part = voice_block(&bytes, k);
+            let past = k + 1 == blocks.len();
+            assert_eq!(part.is_empty(), past);
+            let at = if past {
+                0
+            } else {
+                part.as_ptr() as usize - bytes.as_ptr() as usize
+            };
+            assert_eq!(*line, format!("block {k} {at} {}", part.len()));
+        }
+        let total: usize = (0..blocks.len())
+            .map(|k| voice_block(&bytes, k).len())
+            .sum();
+        assert_eq!(total as u32, 18 * answer(&bytes).unwrap().frames);
+    }
+}
+
+#[test]
+fn a_thousand_recordings_stay_small() {
+    let edges = cases::edges();
+    let mut total = 0;
+    let mut refused = 0;
+    for n in 0..1_000 {
+        let bytes = match edges.get(n) {
+            Some(edge) => edge.bytes.clone(),
+            None => cases::recording(1, n as u64),
+        };
+        refused += usize::from(recording::read(&bytes).is_err());
+        total += bytes.len() + listing::list(&bytes).len();
+        if bytes.len() <= 20_000 {
+            total += hear::hear(&bytes).len();
+        }
+    }
+    assert!(edges.len() < 500, "{} edges", edges.len());
+    assert!(refused >= 500, "{refused} refused");
+    assert!(total < 15_000_000, "{total} bytes");
+}
