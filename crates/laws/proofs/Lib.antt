@@ -3,3 +3,4 @@ pub mod Lowest
 pub mod Tabulate
 pub mod Filled
 pub mod Bits
+pub mod Total

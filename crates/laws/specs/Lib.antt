@@ -1,3 +1,4 @@
 pub mod Table
 pub mod Lowest
 pub mod Tabulate
+pub mod Total

@@ -1,0 +1,125 @@
+-- The loop of `gather`: after p places each field holds what those places give it.
+-- Assumes nothing.
+use mathlib.Core.Path.{_≡_, _∙_, sym, refl, ap, subst}
+use mathlib.Core.Bool.{Bool, true, false, cond}
+use mathlib.Core.List.{List}
+use Prim.Native.Nat.{ℕ, zero, suc, _+_, _-_, _*_, _/_, _%_, _^_, _<_, _≤_}
+use native.Mathlib.Omega.{arith}
+use native.Mathlib.Decide.{ℕ-discrete}
+use native.Mathlib.Nat.{mod-eq-of-lt}
+use native.Mathlib.Numerals.{sub-one}
+use borrow.Author.Tests.{eq-eqb, ne-eqb}
+use lib.Dec.{eqb}
+use lib.ListN.{length, getD, set, length-set, replicate, getD-replicate}
+use lib.Pow.{pow-mono}
+use lib.Seq.{getD-set-same, getD-set-other}
+use Rattle.laws.specs.Total.{total, bit}
+use Rattle.laws.specs.Tabulate.{tabulate}
+use Rattle.laws.proofs.Total.{total-more, total-most}
+use Rattle.laws.proofs.Filled.{Filled, filled-all}
+use Rattle.frame.specs.Places.{nameAt, fieldAt, bitIn}
+use Rattle.frame.specs.Frame.{bitAt, share, valueOf}
+use Rattle.frame.specs.Steps.{entries}
+use Rattle.frame.proofs.Places.{next, field-below, bit-below, entry-field, entry-bit}
+
+-- the bit at the place after the p-th, as the code takes it
+pub bit-next : (s : List ℕ) (p : ℕ) → bitAt s (p + 1) ≡ getD s (p / 8) 0 / 2 ^ (7 - p % 8) % 2
+unfolding bitAt
+bit-next s p = rw (next p)
+
+pub bitAt-small : (s : List ℕ) (p : ℕ) → bitAt s p < 2
+unfolding bitAt
+bitAt-small s p = omega arith
+
+module _ (b : ℕ → ℕ) (bits : (p : ℕ) → b p < 2) where
+  -- a bit with its weight is small
+  weighed : (x k : ℕ) → x < 2 → k < 9 → x * 2 ^ k ≤ 256
+  weighed zero k h l = omega arith
+  weighed (suc zero) k h l = let l′ : k ≤ 8 = omega arith in
+      let m : 2 ^ k ≤ 2 ^ 8 = pow-mono l′ in omega (arith, m)
+  weighed (suc (suc x)) k h l = absurd (omega arith)
+
+  bit-small : (p : ℕ) → 1 ≤ p → p ≤ 144 → bitIn p < 9
+  bit-small zero l h = absurd (omega arith)
+  bit-small (suc k) l h = rw (sub-one (suc k)) (bit-below k (omega arith))
+
+  share-small : (f p : ℕ) → 1 ≤ p → p ≤ 144 → share b f p ≤ 256
+  share-small f p l h = go (eqb (fieldAt p) f)
+    where
+      go : (t : Bool) → cond t (b p * 2 ^ bitIn p) 0 ≤ 256
+      go true = weighed (b p) (bitIn p) (bits p) (bit-small p l h)
+      go false = omega arith
+
+  -- after p places
+  pub record Gathered (p : ℕ) (v : List ℕ) : Type 0 where
+    pub long : length v ≡ 29
+    pub upto : p ≤ 144
+    pub here : (f : ℕ) → f < 29 → getD v f 0 ≡ total (share b f) p
+
+  pub gathered-none : Gathered 0 (replicate 29 0)
+  unfolding total
+  gathered-none = record { long = refl; upto = omega arith; here = λ f h. getD-replicate 29 f 0 0 h }
+
+  module _ {p : ℕ} {v : List ℕ} (g : Gathered p v) (h : p < 144) where
+    abbrev pub weight : ℕ
+    weight = b (p + 1) * 2 ^ bitIn (p + 1)
+
+    pub weight-small : weight ≤ 256
+    weight-small = weighed (b (p + 1)) (bitIn (p + 1)) (bits (p + 1)) (bit-small (p + 1) (omega arith) (omega arith))
+
+    pub field-small : fieldAt (p + 1) < 29
+    field-small = rw (next p) (field-below p h)
+
+    -- what a field holds leaves room for one more
+    pub room : (f : ℕ) → f < 29 → getD v f 0 + weight < 65536
+    room f l =
+        let t : total (share b f) p ≤ 256 * p = total-most (share b f) 256 p (λ k q r. share-small f k q (omega (arith, g .upto))) in
+        let w = weight-small in
+        let e = g .here f l in
+        omega (arith, t, w, e)
+
+    pub gathered-more : Gathered (p + 1) (set v (fieldAt (p + 1)) (getD v (fieldAt (p + 1)) 0 + weight))
+    gathered-more = record { long = length-set v _ _ ∙ g .long; upto = omega arith; here = λ f l. go f l (ℕ-discrete f (fieldAt (p + 1))) }
+      where
+        go : (f : ℕ) → f < 29 → Dec (f ≡ fieldAt (p + 1)) → getD (set v (fieldAt (p + 1)) (getD v (fieldAt (p + 1)) 0 + weight)) f 0 ≡ total (share b f) (p + 1)
+        go f l (yes e) =
+            ap (λ (n : ℕ). getD (set v (fieldAt (p + 1)) (getD v (fieldAt (p + 1)) 0 + weight)) n 0) e
+            ∙ getD-set-same v (fieldAt (p + 1)) _ 0 (rw (g .long) field-small)
+            ∙ ap (λ (n : ℕ). getD v n 0 + weight) (sym e)
+            ∙ ap (λ (n : ℕ). n + weight) (g .here f l)
+            ∙ ap (λ (n : ℕ). total (share b f) p + n) (sym (rw (eq-eqb (fieldAt (p + 1)) f (sym e))))
+            ∙ sym (total-more (share b f) p)
+        go f l (no e) =
+            getD-set-other v (fieldAt (p + 1)) f _ 0 e
+            ∙ g .here f l
+            ∙ sym (total-more (share b f) p ∙ rw (ne-eqb (fieldAt (p + 1)) f (λ w. e (sym w))) (omega arith))
+
+  pub gathered-all : {p : ℕ} {v : List ℕ} → 144 ≤ p → Gathered p v → v ≡ tabulate (valueOf b) 29
+  unfolding valueOf
+  gathered-all {p} {v} h g =
+      filled-all 0 (valueOf b) 29 v
+      (record { long = g .long; upto = omega arith; here = λ f l. g .here f l ∙ ap (total (share b f)) (omega (arith, g .upto)) })
+
+-- a turn as the code takes it: the entry at p, the bit shifted to its weight
+module _ (s t : List ℕ) (same : t ≡ entries) {p : ℕ} {v : List ℕ} (g : Gathered (bitAt s) (bitAt-small s) p v) (h : p < 144) where
+  abbrev shifted : ℕ
+  shifted = getD s (p / 8) 0 / 2 ^ (7 - p % 8) % 2 * 2 ^ (getD t p 0 % 16) % 65536
+
+  field-is : getD t p 0 / 16 ≡ fieldAt (p + 1)
+  field-is = ap (λ (l : List ℕ). getD l p 0 / 16) same ∙ entry-field p h
+
+  shifted-is : shifted ≡ weight (bitAt s) (bitAt-small s) g h
+  shifted-is =
+      ap (λ (l : List ℕ). getD s (p / 8) 0 / 2 ^ (7 - p % 8) % 2 * 2 ^ (getD l p 0 % 16) % 65536) same
+      ∙ ap (λ (k : ℕ). getD s (p / 8) 0 / 2 ^ (7 - p % 8) % 2 * 2 ^ k % 65536) (entry-bit p h)
+      ∙ ap (λ (x : ℕ). x * 2 ^ bitIn (p + 1) % 65536) (sym (bit-next s p))
+      ∙ mod-eq-of-lt (let w = weight-small (bitAt s) (bitAt-small s) g h in omega (arith, w))
+
+  pub turn-field : getD t p 0 / 16 < 29
+  turn-field = rw field-is (field-small (bitAt s) (bitAt-small s) g h)
+
+  pub turn-room : getD v (getD t p 0 / 16) 0 + shifted < 65536
+  turn-room = rw shifted-is (room (bitAt s) (bitAt-small s) g h (getD t p 0 / 16) turn-field)
+
+  pub turn : Gathered (bitAt s) (bitAt-small s) (p + 1) (set v (getD t p 0 / 16) (getD v (getD t p 0 / 16) 0 + shifted))
+  turn = rw (field-is, shifted-is) (gathered-more (bitAt s) (bitAt-small s) g h)

@@ -1,0 +1,60 @@
+-- Facts of the table of 3.8.2, each one computed test over all of its places.
+-- Assumes nothing.
+use mathlib.Core.Path.{_≡_, _∙_, sym, refl, ap, subst}
+use mathlib.Core.Bool.{Bool}
+use mathlib.Core.List.{List, map}
+use Prim.Native.Nat.{ℕ, suc, _+_, _-_, _*_, _/_, _%_, _<_, _≤_}
+use native.Mathlib.Omega.{arith}
+use lib.Dec.{T, ltb, ltb→lt, eqb, eqb→eq}
+use lib.ListN.{length, getD, List·getD-map}
+use Rattle.laws.specs.Table.{both, every}
+use Rattle.laws.proofs.Table.{at, both-left, both-right}
+use Rattle.frame.specs.Places.{Name, places, fieldOf, bitOf, nameAt, fieldAt, bitIn, bitsIn, seek, placeOf}
+use Rattle.frame.specs.Places.Name.{HP}
+use Rattle.frame.specs.Steps.{entryOf, entries}
+
+-- there are 144 of them
+pub length-places : length places ≡ 144
+unfolding places
+length-places = refl
+
+-- what one number of each name is below, by a test over all of them
+below-everywhere : (m n : Name → ℕ) → T (every (λ (k : ℕ) (x : Name). ltb (m x) (n x)) 0 places)
+    → (k : ℕ) → k < 144 → m (getD places k (HP 0)) < n (getD places k (HP 0))
+below-everywhere m n t k h =
+    ltb→lt (m (getD places k (HP 0))) (n (getD places k (HP 0)))
+    (at (HP 0) (λ (k : ℕ) (x : Name). ltb (m x) (n x)) places t k (subst (λ (l : ℕ). k < l) (sym length-places) h))
+
+-- each belongs to one of the 29
+pub field-below : (k : ℕ) → k < 144 → fieldOf (getD places k (HP 0)) < 29
+unfolding places
+field-below = below-everywhere fieldOf (λ x. 29) tt
+
+-- and is one of its bits
+pub bit-in-field : (k : ℕ) → k < 144 → bitOf (getD places k (HP 0)) < bitsIn (fieldOf (getD places k (HP 0)))
+unfolding places
+bit-in-field = below-everywhere bitOf (λ x. bitsIn (fieldOf x)) tt
+
+-- of which there are at most nine
+pub bit-below : (k : ℕ) → k < 144 → bitOf (getD places k (HP 0)) < 9
+unfolding places
+bit-below = below-everywhere bitOf (λ x. 9) tt
+
+-- the place after the k-th
+pub next : (k : ℕ) → k + 1 - 1 ≡ k
+next k = omega arith
+
+-- an entry of the code's table taken apart
+module _ (k : ℕ) (h : k < 144) where
+  entry : getD entries k 0 ≡ 16 * fieldAt (k + 1) + bitIn (k + 1)
+  unfolding entries
+  entry = List·getD-map entryOf places k (HP 0) ∙ ap (λ (n : ℕ). entryOf (getD places n (HP 0))) (sym (next k))
+
+  bit-small : bitIn (k + 1) < 9
+  bit-small = subst (λ (n : ℕ). bitOf (getD places n (HP 0)) < 9) (sym (next k)) (bit-below k h)
+
+  pub entry-field : getD entries k 0 / 16 ≡ fieldAt (k + 1)
+  entry-field = let e = entry in let b = bit-small in omega (arith, e, b)
+
+  pub entry-bit : getD entries k 0 % 16 ≡ bitIn (k + 1)
+  entry-bit = let e = entry in let b = bit-small in omega (arith, e, b)

@@ -1,0 +1,153 @@
+use Rattle.frame.proofs.number_of.Statement.{statement}
+use Rattle.frame.proofs.number_of.Tie as tie
+use Rattle.frame.proofs.number_of.Reads as reads
+use Rattle.frame.proofs.number_of.Lts as lts
+use Rattle.frame.proofs.guarded.Reads as guarded-reads
+
+abbrev Inv-loop : tie.InvT-loop
+Inv-loop fields guarded zero₀ one₀ two₀ three₀ n₀ zero one two three n = ?
+
+abbrev μ-loop : tie.MeasureT-loop
+μ-loop fields guarded zero₀ one₀ two₀ three₀ n₀ zero one two three n = ?
+
+-- src/lib.rt:219:19
+guarded-requires : tie.Need-guarded-requires Inv-loop μ-loop
+guarded-requires c κs = ?
+
+-- src/lib.rt:225:5
+loop-holds : tie.Need-loop-holds Inv-loop μ-loop
+loop-holds c = ?
+
+-- src/lib.rt:226:21
+mul-entry : tie.Need-mul-entry Inv-loop μ-loop
+mul-entry c = ?
+
+-- src/lib.rt:226:21
+array-read-entry : tie.Need-array-read-entry Inv-loop μ-loop
+array-read-entry c = ?
+
+-- src/lib.rt:227:17
+cast-f : tie.Need-cast-f Inv-loop μ-loop
+cast-f c = ?
+
+-- src/lib.rt:228:19
+mul-x : tie.Need-mul-x Inv-loop μ-loop
+mul-x c = ?
+
+-- src/lib.rt:228:19
+array-read-x : tie.Need-array-read-x Inv-loop μ-loop
+array-read-x c = ?
+
+-- src/lib.rt:228:19
+shr-x : tie.Need-shr-x Inv-loop μ-loop
+shr-x c = ?
+
+-- src/lib.rt:228:17
+cast-x : tie.Need-cast-x Inv-loop μ-loop
+cast-x c = ?
+
+-- src/lib.rt:229:9
+add-n : tie.Need-add-n Inv-loop μ-loop
+add-n c = ?
+
+-- src/lib.rt:230:17
+mul-zero : tie.Need-mul-zero Inv-loop μ-loop
+mul-zero c = ?
+
+-- src/lib.rt:230:9
+add-zero : tie.Need-add-zero Inv-loop μ-loop
+add-zero c = ?
+
+-- src/lib.rt:231:16
+mul-one : tie.Need-mul-one Inv-loop μ-loop
+mul-one c = ?
+
+-- src/lib.rt:231:9
+add-one : tie.Need-add-one Inv-loop μ-loop
+add-one c = ?
+
+-- src/lib.rt:232:16
+mul-two : tie.Need-mul-two Inv-loop μ-loop
+mul-two c = ?
+
+-- src/lib.rt:232:9
+add-two : tie.Need-add-two Inv-loop μ-loop
+add-two c = ?
+
+-- src/lib.rt:233:18
+mul-three : tie.Need-mul-three Inv-loop μ-loop
+mul-three c = ?
+
+-- src/lib.rt:233:9
+add-three : tie.Need-add-three Inv-loop μ-loop
+add-three c = ?
+
+-- src/lib.rt:225:5
+loop-less : tie.Need-loop-less Inv-loop μ-loop
+loop-less c = ?
+
+-- src/lib.rt:225:5
+loop-again : tie.Need-loop-again Inv-loop μ-loop
+loop-again c = ?
+
+-- src/lib.rt:235:16
+mul-result : tie.Need-mul-result Inv-loop μ-loop
+mul-result c = ?
+
+-- src/lib.rt:235:5
+add-result : tie.Need-add-result Inv-loop μ-loop
+add-result c = ?
+
+-- src/lib.rt:235:30
+mul-result-2 : tie.Need-mul-result-2 Inv-loop μ-loop
+mul-result-2 c = ?
+
+-- src/lib.rt:235:5
+add-result-2 : tie.Need-add-result-2 Inv-loop μ-loop
+add-result-2 c = ?
+
+-- src/lib.rt:235:44
+mul-result-3 : tie.Need-mul-result-3 Inv-loop μ-loop
+mul-result-3 c = ?
+
+-- src/lib.rt:235:5
+add-result-3 : tie.Need-add-result-3 Inv-loop μ-loop
+add-result-3 c = ?
+
+-- src/lib.rt:216:1
+returns : tie.Need-returns Inv-loop μ-loop
+returns c = ?
+
+pub number-of-spec : {M : Type 1} → statement M
+number-of-spec =
+    tie.close
+    (tie.spec
+    Inv-loop
+    μ-loop
+    guarded-requires
+    loop-holds
+    mul-entry
+    array-read-entry
+    cast-f
+    mul-x
+    array-read-x
+    shr-x
+    cast-x
+    add-n
+    mul-zero
+    add-zero
+    mul-one
+    add-one
+    mul-two
+    add-two
+    mul-three
+    add-three
+    loop-less
+    loop-again
+    mul-result
+    add-result
+    mul-result-2
+    add-result-2
+    mul-result-3
+    add-result-3
+    returns)

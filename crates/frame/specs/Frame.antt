@@ -1,0 +1,60 @@
+-- Eighteen bytes and the 144 bits in them; reading and writing a frame.
+use mathlib.Core.Bool.{Bool, cond}
+use mathlib.Core.List.{List, [], _∷_}
+use Prim.Native.Nat.{ℕ, _+_, _-_, _*_, _/_, _%_, _^_}
+use lib.Dec.{eqb}
+use lib.ListN.{getD, length}
+use Rattle.laws.specs.Total.{total, bit, fromBits}
+use Rattle.laws.specs.Tabulate.{tabulate}
+use Rattle.record.specs.Fields.{indexOf}
+use Rattle.record.specs.declared.Record.{Record}
+use Rattle.frame.specs.Places.{fieldAt, bitIn}
+use Rattle.frame.specs.Parity.{numberOf, guardedPlace, number, mended}
+
+-- the house rule on the order of bits: place 1 is the top bit of byte 0, place 144 the lowest bit of byte 17
+abbrev pub byteOf : ℕ → ℕ
+byteOf p = (p - 1) / 8
+
+abbrev pub shiftOf : ℕ → ℕ
+shiftOf p = 7 - (p - 1) % 8
+
+-- the bit at place p of a frame
+unfoldable pub bitAt : List ℕ → ℕ → ℕ
+bitAt s p = bit (getD s (byteOf p) 0) (shiftOf p)
+
+-- the eighteen bytes that have the bits b: bit i of byte k stands at place 8 k + 8 - i
+unfoldable pub packed : (ℕ → ℕ) → List ℕ
+packed b = tabulate (λ k. fromBits (λ i. b (8 * k + 8 - i)) 8) 18
+
+-- the index in field f of the bits b: each place that belongs to the field counts with the weight of its bit
+abbrev pub share : (ℕ → ℕ) → ℕ → ℕ → ℕ
+share b f p = cond (eqb (fieldAt p) f) (b p * 2 ^ bitIn p) 0
+
+unfoldable pub valueOf : (ℕ → ℕ) → ℕ → ℕ
+valueOf b f = total (share b f) 144
+
+-- the record in the bits b
+abbrev pub recordOf : (ℕ → ℕ) → Record
+recordOf b =
+    record {
+      lsp = tabulate (λ k. valueOf b (k + 1)) 10;
+      subframes = tabulate (λ k. valueOf b (k + 11)) 16;
+      sp = valueOf b 27;
+      sy = valueOf b 28;
+    }
+
+-- the bits sent for the indices v, field by field, the parity bits under 0
+unfoldable pub sent : (ℕ → ℕ) → ℕ → ℕ
+sent v p = bit (v (fieldAt p)) (bitIn p)
+
+-- the indices of a record with parity bits h
+abbrev pub withParity : Record → ℕ → ℕ → ℕ
+withParity r h f = cond (eqb f 0) h (indexOf r f)
+
+-- the parity bits of a record: with them HP-i makes even the sum over itself and the data bits whose number has bit i
+unfoldable pub parityOf : Record → ℕ
+parityOf r = number (sent (withParity r 0))
+
+-- the frame of a record
+unfoldable pub frameOf : Record → List ℕ
+frameOf r = packed (sent (withParity r (parityOf r)))

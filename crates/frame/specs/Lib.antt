@@ -1,0 +1,4 @@
+pub mod Places
+pub mod Parity
+pub mod Frame
+pub mod Steps

@@ -1,0 +1,49 @@
+-- What the private steps of reading and writing answer.
+use mathlib.Core.Bool.{Bool, cond}
+use mathlib.Core.List.{List, [], _∷_, map}
+use Prim.Native.Nat.{ℕ, zero, suc, _+_, _-_, _*_, _/_, _%_, _^_}
+use lib.Dec.{eqb}
+use lib.ListN.{getD, length, set}
+use Rattle.laws.specs.Total.{bit}
+use Rattle.laws.specs.Tabulate.{tabulate}
+use Rattle.record.specs.Fields.{indexOf}
+use Rattle.record.specs.declared.Record.{Record}
+use Rattle.frame.specs.Places.{Name, places, fieldOf, bitOf}
+use Rattle.frame.specs.Parity.{guarded}
+
+-- a name as one number, the field above its bit
+abbrev pub entryOf : Name → ℕ
+entryOf x = 16 * fieldOf x + bitOf x
+
+unfoldable pub entries : List ℕ
+entries = map entryOf places
+
+unfoldable pub guardedEntries : List ℕ
+guardedEntries = map entryOf guarded
+
+-- the bit that an entry names, in a list of indices by field
+abbrev pub bitOfEntry : List ℕ → ℕ → ℕ
+bitOfEntry v e = bit (getD v (e / 16) 0) (e % 16)
+
+-- x with bit k inverted
+abbrev pub invertBit : ℕ → ℕ → ℕ
+invertBit x k = cond (eqb (bit x k) 0) (x + 2 ^ k) (x - 2 ^ k)
+
+-- the indices with the bit of correction number n inverted
+unfoldable pub mendedFields : List ℕ → ℕ → List ℕ
+mendedFields v zero = v
+mendedFields v (suc n) =
+    set v (getD guardedEntries n 0 / 16) (invertBit (getD v (getD guardedEntries n 0 / 16) 0) (getD guardedEntries n 0 % 16))
+
+-- the record of a list of indices by field, and back, the parity bits 0
+abbrev pub recordBy : List ℕ → Record
+recordBy v =
+    record {
+      lsp = tabulate (λ k. getD v (k + 1) 0) 10;
+      subframes = tabulate (λ k. getD v (k + 11) 0) 16;
+      sp = getD v 27 0;
+      sy = getD v 28 0;
+    }
+
+unfoldable pub fieldsOf : Record → List ℕ
+fieldsOf r = tabulate (λ f. cond (eqb f 0) 0 (indexOf r f)) 29

@@ -1,0 +1,57 @@
+-- Sums over 1 to n: equal, ordered, changed at one place, and their parity.
+-- Assumes nothing.
+use mathlib.Core.Path.{_≡_, _∙_, sym, refl, ap, subst}
+use Prim.Native.Nat.{ℕ, zero, suc, _+_, _*_, _%_, _<_, _≤_}
+use native.Mathlib.Omega.{arith}
+use native.Mathlib.Decide.{ℕ-discrete}
+use native.Mathlib.Numerals.{add-one}
+use Rattle.laws.specs.Total.{total}
+
+pub total-more : (f : ℕ → ℕ) (n : ℕ) → total f (n + 1) ≡ total f n + f (n + 1)
+unfolding total
+total-more f n = rw add-one
+
+pub total-cong : (f g : ℕ → ℕ) (n : ℕ) → ((k : ℕ) → 1 ≤ k → k ≤ n → f k ≡ g k) → total f n ≡ total g n
+unfolding total
+total-cong f g zero h = refl
+total-cong f g (suc n) h =
+    let a = total-cong f g n (λ k p q. h k p (omega arith)) in
+    let b = h (suc n) (omega arith) (omega arith) in
+    omega (arith, a, b)
+
+-- each part at most c
+pub total-most : (f : ℕ → ℕ) (c n : ℕ) → ((k : ℕ) → 1 ≤ k → k ≤ n → f k ≤ c) → total f n ≤ c * n
+unfolding total
+total-most f c zero h = omega arith
+total-most f c (suc n) h =
+    let a = total-most f c n (λ k p q. h k p (omega arith)) in
+    let b = h (suc n) (omega arith) (omega arith) in
+    omega (arith, a, b)
+
+-- two sums that differ at the place p alone
+pub total-change : (f g : ℕ → ℕ) (p n : ℕ) → 1 ≤ p → p ≤ n → ((k : ℕ) → 1 ≤ k → k ≤ n → (k ≡ p → ⊥) → f k ≡ g k)
+    → total g n + f p ≡ total f n + g p
+unfolding total
+total-change f g p zero a b h = absurd (omega arith)
+total-change f g p (suc n) a b h = go (ℕ-discrete p (suc n)) (λ c. total-change f g p n a c (λ k q r s. h k q (omega arith) s))
+  where
+    go : Dec (p ≡ suc n) → (p ≤ n → total g n + f p ≡ total f n + g p) → total g n + g (suc n) + f p ≡ total f n + f (suc n) + g p
+    go (yes e) rest =
+        let same = total-cong f g n (λ k q r. h k q (omega arith) (λ w. omega arith)) in
+        let s : f p ≡ f (suc n) = ap f e in
+        let t : g p ≡ g (suc n) = ap g e in
+        omega (arith, same, s, t)
+    go (no e) rest =
+        let m = rest (omega arith) in
+        let s = h (suc n) (omega arith) (omega arith) (λ w. e (sym w)) in
+        omega (arith, m, s)
+
+-- the parity of a sum whose parts have the parity of two others'
+pub total-parity : (f g h : ℕ → ℕ) (n : ℕ) → ((k : ℕ) → 1 ≤ k → k ≤ n → h k % 2 ≡ (f k + g k) % 2)
+    → total h n % 2 ≡ (total f n + total g n) % 2
+unfolding total
+total-parity f g h zero e = refl
+total-parity f g h (suc n) e =
+    let a = total-parity f g h n (λ k p q. e k p (omega arith)) in
+    let b = e (suc n) (omega arith) (omega arith) in
+    omega (arith, a, b)
