@@ -1,2 +1,4 @@
 pub mod Places
 pub mod Gathered
+pub mod Number
+pub mod Packed

@@ -58,3 +58,7 @@ module _ (k : ℕ) (h : k < 144) where
 
   pub entry-bit : getD entries k 0 % 16 ≡ bitIn (k + 1)
   entry-bit = let e = entry in let b = bit-small in omega (arith, e, b)
+
+pub length-entries : length entries ≡ 144
+unfolding entries places
+length-entries = refl

@@ -2,6 +2,7 @@
 use mathlib.Core.Bool.{Bool, cond}
 use mathlib.Core.List.{List, [], _∷_, map}
 use Prim.Native.Nat.{ℕ, zero, suc, _+_, _-_, _*_, _/_, _%_, _^_}
+use lib.Bits.{bitXor}
 use lib.Dec.{eqb}
 use lib.ListN.{getD, length, set}
 use Rattle.laws.specs.Total.{bit}
@@ -25,15 +26,13 @@ guardedEntries = map entryOf guarded
 abbrev pub bitOfEntry : List ℕ → ℕ → ℕ
 bitOfEntry v e = bit (getD v (e / 16) 0) (e % 16)
 
--- x with bit k inverted
-abbrev pub invertBit : ℕ → ℕ → ℕ
-invertBit x k = cond (eqb (bit x k) 0) (x + 2 ^ k) (x - 2 ^ k)
+-- the indices with the bit that an entry names inverted
+abbrev pub inverting : List ℕ → ℕ → List ℕ
+inverting v e = set v (e / 16) (bitXor (getD v (e / 16) 0) (2 ^ (e % 16)))
 
--- the indices with the bit of correction number n inverted
+-- the indices with the bit of correction number n inverted; 0 inverts none
 unfoldable pub mendedFields : List ℕ → ℕ → List ℕ
-mendedFields v zero = v
-mendedFields v (suc n) =
-    set v (getD guardedEntries n 0 / 16) (invertBit (getD v (getD guardedEntries n 0 / 16) 0) (getD guardedEntries n 0 % 16))
+mendedFields v n = cond (eqb n 0) v (inverting v (getD guardedEntries (n - 1) 0))
 
 -- the record of a list of indices by field, and back, the parity bits 0
 abbrev pub recordBy : List ℕ → Record

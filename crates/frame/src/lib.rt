@@ -248,11 +248,63 @@ fn mend(fields: [u16; 29], number: usize) -> [u16; 29]
     let entry = guarded[number - 1];
     let f = (entry / 16) as usize;
     let k = entry % 16;
-    let x = v[f];
-    if (x >> k) % 2 == 0 {
-        v[f] = x + (1 << k);
-    } else {
-        v[f] = x - (1 << k);
-    }
+    v[f] = v[f] ^ (1 << k);
     v
+}
+
+// The record of a list of indices by field.
+fn to_record(v: [u16; 29]) -> Record
+    ensures { λ r. ⌜ r ≡ recordBy v ⌝ }
+{
+    Record {
+        lsp: [v[1], v[2], v[3], v[4], v[5], v[6], v[7], v[8], v[9], v[10]],
+        subframes: [
+            v[11], v[12], v[13], v[14], v[15], v[16], v[17], v[18], v[19], v[20], v[21], v[22], v[23], v[24], v[25], v[26],
+        ],
+        sp: v[27],
+        sy: v[28],
+    }
+}
+
+// A record's indices by field, the parity bits 0.
+fn to_fields(record: Record) -> [u16; 29]
+    ensures { λ r. ⌜ r ≡ fieldsOf «record» ⌝ }
+{
+    let l = record.lsp;
+    let s = record.subframes;
+    [
+        0, l[0], l[1], l[2], l[3], l[4], l[5], l[6], l[7], l[8], l[9], s[0], s[1], s[2], s[3], s[4], s[5], s[6], s[7], s[8],
+        s[9], s[10], s[11], s[12], s[13], s[14], s[15], record.sp, record.sy,
+    ]
+}
+
+// Eight bits sent for the indices, from the place after `from` on, the first of them at the top.
+fn byte_at(fields: &[u16], table: &[u16], from: usize) -> u8
+    requires { ⌜ length (now fields) ≡ 29 ⌝ }
+    requires { ⌜ now table ≡ entries ⌝ }
+    requires { ⌜ from + 8 ≤ 144 ⌝ }
+    ensures { λ r. ⌜ r ≡ fromBits (λ i. sent (λ f. getD (now (fields .entry)) f 0) (from + 8 - i)) 8 ⌝ }
+{
+    let mut x: u16 = 0;
+    let mut q = 0;
+    while q < 8 {
+        let entry = table[from + q];
+        let f = (entry / 16) as usize;
+        x = x * 2 + (fields[f] >> (entry % 16)) % 2;
+        q += 1;
+    }
+    x as u8
+}
+
+// The frame that the indices are sent in.
+fn pack(fields: [u16; 29], frame: &mut [u8])
+    requires { ⌜ length (now frame) ≡ 18 ⌝ }
+    ensures { λ r. ⌜ now (frame .exit) ≡ packed (sent (λ f. getD fields f 0)) ⌝ }
+{
+    let table = table();
+    let mut k = 0;
+    while k < 18 {
+        frame[k] = byte_at(&fields, &table, 8 * k);
+        k += 1;
+    }
 }

@@ -35,3 +35,7 @@ module _ {A : Type 0} (d : A) (f : ℕ → A) (n : ℕ) where
   filled-all l p =
       ext-getD d l (tabulate f n) (p .long ∙ sym (length-tabulate f n))
       (λ k h. p .here k (omega (arith, p .long)) ∙ sym (getD-tabulate f d n k (omega (arith, p .long))))
+
+  -- the same where the loop was left
+  pub filled-done : {i : ℕ} (l : List A) → n ≤ i → Filled d f n i l → l ≡ tabulate f n
+  filled-done {i} l h p = filled-all l (record { long = p .long; upto = omega arith; here = λ k q. p .here k (omega arith) })

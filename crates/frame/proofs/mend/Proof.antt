@@ -1,3 +1,7 @@
+-- `frame::mend` meets its contract: the bit of the number is inverted, and 0 inverts none.
+-- Assumes nothing.
+use native.Mathlib.Omega.{arith}
+use Rattle.frame.proofs.Number.{mended-none, mended-one, mended-field}
 use borrow.Author.Needs.{needs}
 use Rattle.frame.proofs.mend.Statement.{statement}
 use Rattle.frame.proofs.mend.Tie as tie
@@ -7,7 +11,7 @@ use Rattle.frame.proofs.guarded.Reads as guarded-reads
 
 -- src/lib.rt:244:9
 returns : tie.Need-returns
-returns c = ?
+returns c = mended-none _ _ (c .if1 .taken)
 
 -- src/lib.rt:246:19
 guarded-requires : tie.Need-guarded-requires
@@ -27,59 +31,31 @@ array-read-entry c = search needs
 
 -- src/lib.rt:249:13
 cast-f : tie.Need-cast-f
-cast-f c = ?
+cast-f c = let f = mended-field (c .before .before .args .fields) _ (c .guarded .ensures) (c .before .before .args .number) (c .before .if1 .left) (c .before .before .pre) in omega (arith, f)
 
--- src/lib.rt:251:13
-mul-x : tie.Need-mul-x
-mul-x c = ?
+-- src/lib.rt:251:12
+mul-v : tie.Need-mul-v
+mul-v c = let f = mended-field (c .before .before .args .fields) _ (c .guarded .ensures) (c .before .before .args .number) (c .before .if1 .left) (c .before .before .pre) in omega (arith, f)
 
--- src/lib.rt:251:13
-array-read-x : tie.Need-array-read-x
-array-read-x c = ?
+-- src/lib.rt:251:12
+array-read-v : tie.Need-array-read-v
+array-read-v c = let f = mended-field (c .before .before .args .fields) _ (c .guarded .ensures) (c .before .before .args .number) (c .before .if1 .left) (c .before .before .pre) in omega (arith, f)
 
--- src/lib.rt:252:9
-shr-if2 : tie.Need-shr-if2
-shr-if2 c = search needs
-
--- src/lib.rt:253:21
+-- src/lib.rt:251:20
 shl-v : tie.Need-shl-v
 shl-v c = search needs
 
--- src/lib.rt:253:16
-add-v : tie.Need-add-v
-add-v c = ?
-
--- src/lib.rt:253:9
-mul-v : tie.Need-mul-v
-mul-v c = ?
-
--- src/lib.rt:253:9
-array-write-v : tie.Need-array-write-v
-array-write-v c = ?
-
--- src/lib.rt:255:21
-shl-v-2 : tie.Need-shl-v-2
-shl-v-2 c = search needs
-
--- src/lib.rt:255:16
-sub-v : tie.Need-sub-v
-sub-v c = ?
-
--- src/lib.rt:255:9
+-- src/lib.rt:251:5
 mul-v-2 : tie.Need-mul-v-2
-mul-v-2 c = ?
+mul-v-2 c = let f = mended-field (c .before .before .args .fields) _ (c .guarded .ensures) (c .before .before .args .number) (c .before .if1 .left) (c .before .before .pre) in omega (arith, f)
 
--- src/lib.rt:255:9
-array-write-v-2 : tie.Need-array-write-v-2
-array-write-v-2 c = ?
+-- src/lib.rt:251:5
+array-write-v : tie.Need-array-write-v
+array-write-v c = let f = mended-field (c .before .before .args .fields) _ (c .guarded .ensures) (c .before .before .args .number) (c .before .if1 .left) (c .before .before .pre) in omega (arith, f)
 
 -- src/lib.rt:239:1
 returns-2 : tie.Need-returns-2
-returns-2 c = ?
-
--- src/lib.rt:239:1
-returns-3 : tie.Need-returns-3
-returns-3 c = ?
+returns-2 c = mended-one _ _ (c .guarded .ensures) _ (c .before .if1 .left)
 
 pub mend-spec : {M : Type 1} → statement M
 mend-spec =
@@ -91,16 +67,9 @@ mend-spec =
     mul-entry
     array-read-entry
     cast-f
-    mul-x
-    array-read-x
-    shr-if2
-    shl-v
-    add-v
     mul-v
-    array-write-v
-    shl-v-2
-    sub-v
+    array-read-v
+    shl-v
     mul-v-2
-    array-write-v-2
-    returns-2
-    returns-3)
+    array-write-v
+    returns-2)

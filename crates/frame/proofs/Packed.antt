@@ -1,0 +1,67 @@
+-- The loops of `byte_at` and `pack`: eight bits shifted in one after the other, and eighteen bytes.
+-- Assumes nothing.
+use mathlib.Core.Path.{_≡_, _∙_, sym, refl, ap, subst}
+use mathlib.Core.List.{List}
+use Prim.Native.Nat.{ℕ, zero, suc, _+_, _-_, _*_, _/_, _%_, _^_, _<_, _≤_}
+use native.Mathlib.Omega.{arith}
+use native.Mathlib.Numerals.{add-one}
+use lib.ListN.{length, getD}
+use lib.Pow.{pow-mono}
+use Rattle.laws.specs.Total.{bit, fromBits}
+use Rattle.laws.proofs.Bits.{fromBits-lt, fromBits-low, fromBits-cong}
+use Rattle.frame.specs.Places.{fieldAt, bitIn}
+use Rattle.frame.specs.Frame.{sent}
+use Rattle.frame.specs.Steps.{entries}
+use Rattle.frame.proofs.Places.{entry-field, entry-bit, field-below, next}
+
+module _ (b : ℕ → ℕ) (bits : (p : ℕ) → b p < 2) (from : ℕ) where
+  -- the q bits after place from, the last of them lowest
+  pub record Shifted (q x : ℕ) : Type 0 where
+    pub upto : q ≤ 8
+    pub here : x ≡ fromBits (λ i. b (from + q - i)) q
+
+  pub shifted-none : Shifted 0 0
+  unfolding fromBits
+  shifted-none = record { upto = omega arith; here = refl }
+
+  module _ {q x : ℕ} (s : Shifted q x) where
+    pub shifted-small : x < 2 ^ q
+    shifted-small = rw (s .here) (fromBits-lt (λ i. b (from + q - i)) q (λ i h. bits (from + q - i)))
+
+    pub shifted-byte : x < 256
+    shifted-byte = let p : 2 ^ q ≤ 2 ^ 8 = pow-mono (s .upto) in let h = shifted-small in omega (arith, p, h)
+
+    pub shifted-room : q < 8 → x < 128
+    shifted-room l =
+        let l′ : q ≤ 7 = omega arith in
+        let p : 2 ^ q ≤ 2 ^ 7 = pow-mono l′ in
+        let h = shifted-small in
+        omega (arith, p, h)
+
+    pub shifted-more : q < 8 → Shifted (q + 1) (x * 2 + b (from + q + 1))
+    shifted-more l = record { upto = omega arith; here = sym grown }
+      where
+        rest : fromBits (λ i. b (from + (q + 1) - suc i)) q ≡ x
+        rest = fromBits-cong (λ i. b (from + (q + 1) - suc i)) (λ i. b (from + q - i)) q (λ i h. ap b (omega arith)) ∙ sym (s .here)
+        first : b (from + (q + 1) - 0) ≡ b (from + q + 1)
+        first = ap b (omega arith)
+        grown : fromBits (λ i. b (from + (q + 1) - i)) (q + 1) ≡ x * 2 + b (from + q + 1)
+        grown =
+            ap (fromBits (λ i. b (from + (q + 1) - i))) (add-one q) ∙ fromBits-low (λ i. b (from + (q + 1) - i)) q
+                ∙ omega (arith, rest, first)
+
+    pub shifted-all : 8 ≤ q → x ≡ fromBits (λ i. b (from + 8 - i)) 8
+    shifted-all h = let e : q ≡ 8 = omega (arith, s .upto) in subst (λ (n : ℕ). x ≡ fromBits (λ i. b (from + n - i)) n) e (s .here)
+
+-- the next bit to send, as the code takes it, of its list t of entries
+module _ (v t : List ℕ) (same : t ≡ entries) (p : ℕ) (h : p < 144) where
+  pub sent-next : getD v (getD t p 0 / 16) 0 / 2 ^ (getD t p 0 % 16) % 2 ≡ sent (λ f. getD v f 0) (p + 1)
+  unfolding sent
+  sent-next = rw (same, entry-field p h, entry-bit p h)
+
+  pub sent-field : getD t p 0 / 16 < 29
+  sent-field = rw (same, entry-field p h) (rw (next p) (field-below p h))
+
+pub sent-small : (v : ℕ → ℕ) (p : ℕ) → sent v p < 2
+unfolding sent
+sent-small v p = omega arith
