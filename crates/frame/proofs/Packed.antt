@@ -43,12 +43,14 @@ module _ (b : ℕ → ℕ) (bits : (p : ℕ) → b p < 2) (from : ℕ) where
       where
         rest : fromBits (λ i. b (from + (q + 1) - suc i)) q ≡ x
         rest = fromBits-cong (λ i. b (from + (q + 1) - suc i)) (λ i. b (from + q - i)) q (λ i h. ap b (omega arith)) ∙ sym (s .here)
+
         first : b (from + (q + 1) - 0) ≡ b (from + q + 1)
         first = ap b (omega arith)
+
         grown : fromBits (λ i. b (from + (q + 1) - i)) (q + 1) ≡ x * 2 + b (from + q + 1)
         grown =
             ap (fromBits (λ i. b (from + (q + 1) - i))) (add-one q) ∙ fromBits-low (λ i. b (from + (q + 1) - i)) q
-                ∙ omega (arith, rest, first)
+            ∙ omega (arith, rest, first)
 
     pub shifted-all : 8 ≤ q → x ≡ fromBits (λ i. b (from + 8 - i)) 8
     shifted-all h = let e : q ≡ 8 = omega (arith, s .upto) in subst (λ (n : ℕ). x ≡ fromBits (λ i. b (from + n - i)) n) e (s .here)

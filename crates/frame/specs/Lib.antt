@@ -1,4 +1,5 @@
 pub mod Places
 pub mod Parity
 pub mod Frame
+pub mod Answers
 pub mod Steps

@@ -10,7 +10,31 @@ ghost use Rattle.laws.specs.Tabulate.{tabulate};
 ghost use Rattle.laws.specs.Total.{bit, fromBits};
 ghost use Rattle.frame.specs.Parity.{numberOf};
 ghost use Rattle.frame.specs.Frame.{bitAt, packed, valueOf, sent};
+ghost use Rattle.frame.specs.Answers.{readingOf, writtenOf, frameLeft, recordMark};
 ghost use Rattle.frame.specs.Steps.{entries, guardedEntries, bitOfEntry, mendedFields, recordBy, fieldsOf};
+
+// Whether a frame was read. (Refusal 1: it was not eighteen bytes.)
+pub enum Verdict {
+    Read,
+    WrongLength,
+}
+
+// What is read in a frame: the record after correction, the correction number and the order mark; all 0 where it was refused.
+pub struct Reading {
+    pub verdict: Verdict,
+    pub indices: Record,
+    pub number: usize,
+    pub mark: usize,
+}
+
+// What a record to write gets: the frame, or the refusal with what it tells.
+pub enum Written {
+    Frame,
+    WrongLength,
+    TooLarge(usize),
+    Falling(usize),
+    Expansion,
+}
 
 // The table of 3.8.2, place 1 first: the field in the upper digits, the bit in the last.
 const TABLE: [u16; 144] = [
@@ -179,6 +203,68 @@ const GUARDED: [u16; 15] = [
     0x1b0,
 ];
 
+// Reads a frame.
+pub fn read(frame: &[u8]) -> Reading
+    ensures { λ r. ⌜ r ≡ readingOf (now (frame .entry)) ⌝ }
+{
+    if frame.len() != 18 {
+        return Reading {
+            verdict: Verdict::WrongLength,
+            indices: Record {
+                lsp: [0u16; 10],
+                subframes: [0u16; 16],
+                sp: 0,
+                sy: 0,
+            },
+            number: 0,
+            mark: 0,
+        };
+    }
+    let received = gather(frame);
+    let number = number_of(received);
+    let indices = to_record(mend(received, number));
+    let mark = mark_of(indices);
+    Reading {
+        verdict: Verdict::Read,
+        indices,
+        number,
+        mark,
+    }
+}
+
+// Writes a record into a lent frame. A refusal writes nothing.
+pub fn write(r: Record, frame: &mut [u8]) -> Written
+    ensures { λ a. ⌜ a ≡ writtenOf r (length (now (frame .entry))) ⌝ }
+    ensures { λ a. ⌜ now (frame .exit) ≡ frameLeft r (now (frame .entry)) ⌝ }
+{
+    if frame.len() != 18 {
+        return Written::WrongLength;
+    }
+    let field = r.too_large();
+    if field != 0 {
+        return Written::TooLarge(field);
+    }
+    let mark = mark_of(r);
+    if mark != 0 {
+        return Written::Falling(mark);
+    }
+    if r.sp != 0 {
+        return Written::Expansion;
+    }
+    let mut fields = to_fields(r);
+    fields[0] = number_of(fields) as u16;
+    pack(fields, frame);
+    Written::Frame
+}
+
+// The order mark of a record.
+fn mark_of(r: Record) -> usize
+    ensures { λ m. ⌜ m ≡ recordMark r ⌝ }
+{
+    let indices = r.lsp;
+    lsp::order_mark(lsp::hertz(indices))
+}
+
 // The table, as the definitions have it.
 fn table() -> [u16; 144]
     ensures { λ r. ⌜ r ≡ entries ⌝ }
@@ -259,7 +345,22 @@ fn to_record(v: [u16; 29]) -> Record
     Record {
         lsp: [v[1], v[2], v[3], v[4], v[5], v[6], v[7], v[8], v[9], v[10]],
         subframes: [
-            v[11], v[12], v[13], v[14], v[15], v[16], v[17], v[18], v[19], v[20], v[21], v[22], v[23], v[24], v[25], v[26],
+            v[11],
+            v[12],
+            v[13],
+            v[14],
+            v[15],
+            v[16],
+            v[17],
+            v[18],
+            v[19],
+            v[20],
+            v[21],
+            v[22],
+            v[23],
+            v[24],
+            v[25],
+            v[26],
         ],
         sp: v[27],
         sy: v[28],
@@ -267,14 +368,41 @@ fn to_record(v: [u16; 29]) -> Record
 }
 
 // A record's indices by field, the parity bits 0.
-fn to_fields(record: Record) -> [u16; 29]
-    ensures { λ r. ⌜ r ≡ fieldsOf «record» ⌝ }
+fn to_fields(r: Record) -> [u16; 29]
+    ensures { λ v. ⌜ v ≡ fieldsOf r ⌝ }
 {
-    let l = record.lsp;
-    let s = record.subframes;
+    let l = r.lsp;
+    let s = r.subframes;
     [
-        0, l[0], l[1], l[2], l[3], l[4], l[5], l[6], l[7], l[8], l[9], s[0], s[1], s[2], s[3], s[4], s[5], s[6], s[7], s[8],
-        s[9], s[10], s[11], s[12], s[13], s[14], s[15], record.sp, record.sy,
+        0,
+        l[0],
+        l[1],
+        l[2],
+        l[3],
+        l[4],
+        l[5],
+        l[6],
+        l[7],
+        l[8],
+        l[9],
+        s[0],
+        s[1],
+        s[2],
+        s[3],
+        s[4],
+        s[5],
+        s[6],
+        s[7],
+        s[8],
+        s[9],
+        s[10],
+        s[11],
+        s[12],
+        s[13],
+        s[14],
+        s[15],
+        r.sp,
+        r.sy,
     ]
 }
 

@@ -6,7 +6,7 @@ use Prim.Native.Nat.{ℕ, zero, suc, _+_, _-_, _*_, _/_, _%_, _^_, _<_, _≤_}
 use native.Mathlib.Omega.{arith}
 use native.Mathlib.Numerals.{one-add}
 use native.Mathlib.Decide.{ℕ-discrete, decLe}
-use native.Mathlib.Nat.{div-lt-iff-lt-mul, one-mul, pow-suc}
+use native.Mathlib.Nat.{div-lt-iff-lt-mul, one-mul, pow-suc, zero-div}
 use borrow.Author.Tests.{le-leb, lt-leb}
 use lib.Dec.{leb}
 use lib.Pow.{pow-pos, shr-shr}
@@ -138,3 +138,24 @@ bit-xor x y i = rw (xor-shr x y i) (lowest-bit (x / 2 ^ i) (y / 2 ^ i))
     lowest-bit a b =
         let d = differs (a % 2) (b % 2) (omega arith) (omega arith) in
         rw (xor-step a b) (rw d (omega arith))
+
+-- no bit of 0 is set, and one of a power of 2
+pub bit-zero : (i : ℕ) → bit 0 i ≡ 0
+bit-zero i = rw (zero-div (2 ^ i))
+
+pub bit-pow : (k : ℕ) → bit (2 ^ k) k ≡ 1
+bit-pow zero = refl
+bit-pow (suc k) = bit-suc (2 ^ suc k) k ∙ ap (λ (n : ℕ). bit n k) half ∙ bit-pow k
+  where
+    half : 2 ^ suc k / 2 ≡ 2 ^ k
+    half = omega (arith, pow-suc 2 k)
+
+pub bit-pow-other : (k i : ℕ) → (i ≡ k → ⊥) → bit (2 ^ k) i ≡ 0
+bit-pow-other zero zero e = absurd (e refl)
+bit-pow-other zero (suc i) e = bit-suc 1 i ∙ bit-zero i
+bit-pow-other (suc k) zero e = omega (arith, pow-suc 2 k)
+bit-pow-other (suc k) (suc i) e =
+    bit-suc (2 ^ suc k) i ∙ ap (λ (n : ℕ). bit n i) half ∙ bit-pow-other k i (λ w. e (ap suc w))
+  where
+    half : 2 ^ suc k / 2 ≡ 2 ^ k
+    half = omega (arith, pow-suc 2 k)

@@ -4,3 +4,5 @@ pub mod Tabulate
 pub mod Filled
 pub mod Bits
 pub mod Total
+pub mod Collected
+pub mod Placed

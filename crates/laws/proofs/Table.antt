@@ -7,7 +7,9 @@ use Prim.Native.Nat.{ℕ, zero, suc, _+_, _<_}
 use native.Mathlib.Nat.{add-zero, zero-add, add-suc, suc-add, le-of-suc-le-suc, not-suc-le-zero}
 use lib.Dec.{T}
 use lib.ListN.{length, getD}
-use Rattle.laws.specs.Table.{both, every}
+use native.Mathlib.Decide.{ℕ-discrete}
+use native.Mathlib.Omega.{arith}
+use Rattle.laws.specs.Table.{both, every, allBelow}
 
 pub both-left : (a b : Bool) → T (both a b) → T a
 both-left true b t = tt
@@ -28,3 +30,12 @@ module _ {A : Type 0} (d : A) (f : ℕ → A → Bool) where
   -- a test that passes over the whole table passes at the entry k
   pub at : (xs : List A) → T (every f 0 xs) → (k : ℕ) → k < length xs → T (f k (getD xs k d))
   at xs t k h = subst (λ (m : ℕ). T (f m (getD xs k d))) (zero-add k) (from xs 0 t k h)
+
+-- a test that passes at each number below n passes at k
+pub below : (t : ℕ → Bool) (n : ℕ) → T (allBelow n t) → (k : ℕ) → k < n → T (t k)
+below t zero p k h = absurd (not-suc-le-zero h)
+below t (suc n) p k h = go (below t n (both-right (t n) (allBelow n t) p) k) (ℕ-discrete k n)
+  where
+    go : (k < n → T (t k)) → Dec (k ≡ n) → T (t k)
+    go rest (yes e) = subst (λ (m : ℕ). T (t m)) (sym e) (both-left (t n) (allBelow n t) p)
+    go rest (no e) = rest (omega arith)

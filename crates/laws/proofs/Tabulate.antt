@@ -1,6 +1,6 @@
 -- Lists given by their places, and the loop that fills one from the front.
 -- Assumes nothing.
-use mathlib.Core.Path.{_≡_, _∙_, sym, refl, ap, subst}
+use mathlib.Core.Path.{_≡_, _∙_, sym, refl, ap, ap₂}
 use mathlib.Core.List.{List, [], _∷_}
 use Prim.Native.Nat.{ℕ, zero, suc, _+_, _<_, _≤_}
 use native.Mathlib.Omega.{arith}
@@ -26,3 +26,12 @@ module _ {A : Type 0} (f : ℕ → A) where
   -- what stands at a place of it
   pub getD-tabulate : (d : A) (n k : ℕ) → k < n → getD (tabulate f n) k d ≡ f k
   getD-tabulate d n k h = getD-from d n 0 k h ∙ ap f (zero-add k)
+
+from-cong : {A : Type 0} (f g : ℕ → A) (n i : ℕ) → ((k : ℕ) → i ≤ k → k < i + n → f k ≡ g k) → tabulateFrom i f n ≡ tabulateFrom i g n
+unfolding tabulateFrom
+from-cong f g zero i h = refl
+from-cong f g (suc n) i h = ap₂ _∷_ (h i (omega arith) (omega arith)) (from-cong f g n (suc i) (λ k a b. h k (omega arith) (omega arith)))
+
+-- two lists that hold the same at each place are one
+pub tabulate-cong : {A : Type 0} (f g : ℕ → A) (n : ℕ) → ((k : ℕ) → k < n → f k ≡ g k) → tabulate f n ≡ tabulate g n
+tabulate-cong f g n h = from-cong f g n 0 (λ k a b. h k (omega arith))

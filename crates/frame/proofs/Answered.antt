@@ -1,0 +1,142 @@
+-- The returns of `read` and `write`: what was computed step by step is what the definitions say.
+-- Assumes nothing.
+use mathlib.Core.Path.{_≡_, _∙_, sym, refl, ap, subst}
+use mathlib.Core.Bool.{Bool, true, false, cond}
+use mathlib.Core.List.{List}
+use Prim.Native.Nat.{ℕ, zero, suc, _+_, _-_, _*_, _/_, _%_, _^_, _<_, _≤_}
+use native.Mathlib.Omega.{arith}
+use native.Mathlib.Decide.{ℕ-discrete}
+use borrow.Author.Tests.{eq-eqb, ne-eqb}
+use lib.Dec.{eqb}
+use lib.ListN.{length, getD, set}
+use lib.Seq.{getD-set-same, getD-set-other}
+use Rattle.laws.specs.Total.{total, bit, fromBits}
+use Rattle.laws.specs.Tabulate.{tabulate, tabulateFrom}
+use Rattle.laws.proofs.Total.{total-cong}
+use Rattle.laws.proofs.Tabulate.{length-tabulate, getD-tabulate, tabulate-cong}
+use Rattle.laws.proofs.Bits.{fromBits-lt, fromBits-cong}
+use Rattle.record.specs.Fields.{tooLarge, indexOf}
+use Rattle.record.specs.declared.Record.{Record}
+use Rattle.frame.specs.Places.{fieldAt, bitIn}
+use Rattle.frame.specs.Parity.{guardedPlace, check, numberOf, number, mended}
+use Rattle.frame.specs.Frame.{bitAt, packed, valueOf, recordOf, sent, withParity, parityOf, frameOf}
+use Rattle.frame.specs.Answers.{recordMark, noRecord, readingOf, writtenOf, leftBy, frameLeft}
+use Rattle.frame.specs.Steps.{mendedFields, recordBy, fieldsOf}
+use Rattle.frame.specs.declared.Reading.{Reading}
+use Rattle.frame.specs.declared.Verdict.the-variants as Verdict
+use Rattle.frame.specs.declared.Written.{Written}
+use Rattle.frame.specs.declared.Written.the-variants as Written
+use Rattle.frame.proofs.Fields.{field-small}
+use Rattle.frame.proofs.Gathered.{bitAt-small}
+use Rattle.frame.proofs.Number.{guardedBits}
+use Rattle.frame.proofs.Mended.{guardedField, guardedBit, guarded-field-small, field-of-guarded, bit-of-guarded, guarded-entry, number-of-fields, number-small, record-read}
+
+-- a reading of its parts
+abbrev reading : Record → ℕ → ℕ → Reading
+reading r n m = record { verdict = Verdict.Read; indices = r; number = n; mark = m }
+
+pub read-refused : (s : List ℕ) → (length s ≡ 18 → ⊥)
+    → record { verdict = Verdict.WrongLength; indices = noRecord; number = 0; mark = 0 } ≡ readingOf s
+unfolding readingOf
+read-refused s e = rw (ne-eqb (length s) 18 e)
+
+-- the steps of reading
+module _ (s v : List ℕ) (n : ℕ) (gathered : v ≡ tabulate (valueOf (bitAt s)) 29) (numbered : n ≡ numberOf (guardedBits v)) where
+  pub number-is : n ≡ number (bitAt s)
+  number-is = numbered ∙ ap (λ (l : List ℕ). numberOf (guardedBits l)) gathered ∙ number-of-fields (bitAt s) (bitAt-small s)
+
+  pub number-fits : n < 16
+  number-fits = rw number-is (number-small (bitAt s) (bitAt-small s))
+
+  pub read-whole : (w : List ℕ) (m : ℕ) (r : Record) → length s ≡ 18 → w ≡ mendedFields v n → r ≡ recordBy w → m ≡ recordMark r
+      → reading r n m ≡ readingOf s
+  unfolding readingOf
+  read-whole w m r long mended-is recorded marked =
+      rw (eq-eqb (length s) 18 long)
+      (λ i. record { verdict = Verdict.Read; indices = same i; number = number-is i; mark = (marked ∙ ap recordMark same) i })
+    where
+      same : r ≡ recordOf (mended (bitAt s))
+      same =
+          recorded ∙ ap recordBy mended-is ∙ ap (λ (l : List ℕ). recordBy (mendedFields l n)) gathered
+          ∙ ap (λ (k : ℕ). recordBy (mendedFields (tabulate (valueOf (bitAt s)) 29) k)) number-is
+          ∙ record-read (bitAt s) (bitAt-small s)
+
+-- the answers of writing, lowest refusal first
+module _ (r : Record) (n : ℕ) where
+  pub wrong-length : (n ≡ 18 → ⊥) → Written.WrongLength ≡ writtenOf r n
+  unfolding writtenOf
+  wrong-length e = rw (ne-eqb n 18 e)
+
+  pub too-large : n ≡ 18 → (f : ℕ) → f ≡ tooLarge r → (f ≡ 0 → ⊥) → Written.TooLarge f ≡ writtenOf r n
+  unfolding writtenOf
+  too-large e f is w = rw (eq-eqb n 18 e, ne-eqb (tooLarge r) 0 (λ z. w (is ∙ z))) (ap Written.TooLarge is)
+
+  pub falling : n ≡ 18 → tooLarge r ≡ 0 → (m : ℕ) → m ≡ recordMark r → (m ≡ 0 → ⊥) → Written.Falling m ≡ writtenOf r n
+  unfolding writtenOf
+  falling e z m is w =
+      rw (eq-eqb n 18 e, eq-eqb (tooLarge r) 0 z, ne-eqb (recordMark r) 0 (λ q. w (is ∙ q))) (ap Written.Falling is)
+
+  pub expansion : n ≡ 18 → tooLarge r ≡ 0 → recordMark r ≡ 0 → (r .sp ≡ 0 → ⊥) → Written.Expansion ≡ writtenOf r n
+  unfolding writtenOf
+  expansion e z m w = rw (eq-eqb n 18 e, eq-eqb (tooLarge r) 0 z, eq-eqb (recordMark r) 0 m, ne-eqb (r .sp) 0 w)
+
+  pub accepted : n ≡ 18 → tooLarge r ≡ 0 → recordMark r ≡ 0 → r .sp ≡ 0 → Written.Frame ≡ writtenOf r n
+  unfolding writtenOf
+  accepted e z m w = rw (eq-eqb n 18 e, eq-eqb (tooLarge r) 0 z, eq-eqb (recordMark r) 0 m, eq-eqb (r .sp) 0 w)
+
+-- what the buffer holds after them
+module _ (r : Record) (s : List ℕ) where
+  pub left : (a : Written) → a ≡ writtenOf r (length s) → leftBy a (frameOf r) s ≡ frameLeft r s
+  unfolding frameLeft
+  left a e = ap (λ (x : Written). leftBy x (frameOf r) s) e
+
+-- two ways to say the indices send the same frame
+pub packed-cong : (u v : ℕ → ℕ) → ((f : ℕ) → f < 29 → u f ≡ v f) → packed (sent u) ≡ packed (sent v)
+unfolding packed sent
+packed-cong u v same =
+    tabulate-cong (λ k. fromBits (λ i. sent u (8 * k + 8 - i)) 8) (λ k. fromBits (λ i. sent v (8 * k + 8 - i)) 8) 18
+    (λ k h. fromBits-cong (λ i. sent u (8 * k + 8 - i)) (λ i. sent v (8 * k + 8 - i)) 8
+    (λ i l. ap (λ (x : ℕ). bit x (bitIn (8 * k + 8 - i))) (same (fieldAt (8 * k + 8 - i)) (field-small (8 * k + 8 - i) (omega arith) (omega arith)))))
+
+fields-long : (r : Record) → length (fieldsOf r) ≡ 29
+unfolding fieldsOf
+fields-long r = length-tabulate (withParity r 0) 29
+
+-- the steps of writing
+module _ (r : Record) (v : List ℕ) (h : ℕ) (listed : v ≡ fieldsOf r) (numbered : h ≡ numberOf (guardedBits v)) where
+  at-field : (f : ℕ) → f < 29 → getD (fieldsOf r) f 0 ≡ withParity r 0 f
+  unfolding fieldsOf
+  at-field f l = getD-tabulate (withParity r 0) 0 29 f l
+
+  guarded-sent : (n : ℕ) → 1 ≤ n → n ≤ 15 → guardedBits (fieldsOf r) n ≡ sent (withParity r 0) (guardedPlace n)
+  unfolding sent
+  guarded-sent n a l =
+      guarded-entry n a l (fieldsOf r)
+      ∙ ap (λ (x : ℕ). bit x (guardedBit n)) (at-field (guardedField n) (guarded-field-small n a l))
+      ∙ sym (rw (field-of-guarded n a l, bit-of-guarded n a l))
+
+  pub parity-is : h ≡ parityOf r
+  unfolding parityOf number
+  parity-is =
+      numbered ∙ ap (λ (l : List ℕ). numberOf (guardedBits l)) listed
+      ∙ fromBits-cong (check (guardedBits (fieldsOf r))) (check (λ n. sent (withParity r 0) (guardedPlace n))) 4
+      (λ i q. ap (λ (k : ℕ). k % 2)
+      (total-cong (λ n. bit n i * guardedBits (fieldsOf r) n) (λ n. bit n i * sent (withParity r 0) (guardedPlace n)) 15
+      (λ n a l. ap (λ (x : ℕ). bit n i * x) (guarded-sent n a l))))
+
+  pub parity-fits : h < 16
+  parity-fits = rw numbered (fromBits-lt (check (guardedBits v)) 4 (λ i l. omega arith))
+
+  pub frame-is : packed (sent (λ f. getD (set v 0 h) f 0)) ≡ frameOf r
+  unfolding frameOf
+  frame-is =
+      packed-cong (λ f. getD (set v 0 h) f 0) (withParity r h) (λ f l. go f l (ℕ-discrete f 0))
+      ∙ ap (λ (k : ℕ). packed (sent (withParity r k))) parity-is
+    where
+      long : length (fieldsOf r) ≡ 29
+      long = fields-long r
+
+      go : (f : ℕ) → f < 29 → Dec (f ≡ 0) → getD (set v 0 h) f 0 ≡ withParity r h f
+      go f l (yes e) = rw (e, listed) (getD-set-same (fieldsOf r) 0 h 0 (omega (arith, long)))
+      go f l (no e) =
+          rw listed (getD-set-other (fieldsOf r) 0 f h 0 e ∙ at-field f l ∙ rw (ne-eqb f 0 e))

@@ -1,0 +1,103 @@
+-- Every bit of every field, and every parity bit, has exactly one place; so an index read has the bits at its places.
+-- Assumes nothing.
+use mathlib.Core.Path.{_≡_, _∙_, sym, refl, ap, subst}
+use mathlib.Core.Bool.{Bool}
+use Prim.Native.Nat.{ℕ, zero, suc, _+_, _-_, _^_, _<_, _≤_}
+use native.Mathlib.Omega.{arith}
+use native.Mathlib.Numerals.{sub-one}
+use lib.Dec.{T, leb, leb→le, eqb, eqb→eq}
+use lib.ListN.{getD}
+use Rattle.laws.specs.Table.{both, every, allBelow}
+use Rattle.laws.specs.Total.{total, bit, fromBits}
+use Rattle.laws.proofs.Table.{at, both-left, both-right, below}
+use Rattle.laws.proofs.Bits.{fromBits-lt, bit-fromBits}
+use Rattle.laws.proofs.Collected.{Scattered, collected}
+use Rattle.frame.specs.Places.{Name, places, fieldOf, bitOf, fieldAt, bitIn, bitsIn, seek, placeOf}
+use Rattle.frame.specs.Places.Name.{HP}
+use Rattle.frame.specs.Frame.{share, valueOf}
+use Rattle.frame.proofs.Places.{length-places, field-below, bit-in-field, next}
+
+-- the test at one place: its bit has no earlier place
+here-first : ℕ → Name → Bool
+here-first k x = eqb (placeOf (fieldOf x) (bitOf x)) (suc k)
+
+all-first : T (every here-first 0 places)
+unfolding here-first places seek
+all-first = tt
+
+-- the test at one bit of one field: it has a place
+found-at : ℕ → ℕ → ℕ → Bool
+found-at f i p = both (leb 1 p) (both (leb p 144) (both (eqb (fieldAt p) f) (eqb (bitIn p) i)))
+
+found : ℕ → Bool
+found f = allBelow (bitsIn f) (λ (i : ℕ). found-at f i (placeOf f i))
+
+all-found : T (allBelow 29 found)
+unfolding found found-at places seek
+all-found = tt
+
+-- the place of a bit of a field
+module _ (f i : ℕ) (h : f < 29) (l : i < bitsIn f) where
+  here : T (found-at f i (placeOf f i))
+  unfolding found
+  here = below (λ (i : ℕ). found-at f i (placeOf f i)) (bitsIn f) (below found 29 all-found f h) i l
+
+  pub place-first : 1 ≤ placeOf f i
+  unfolding found-at
+  place-first = leb→le 1 (placeOf f i) (both-left (leb 1 (placeOf f i)) _ here)
+
+  rest : T (both (leb (placeOf f i) 144) (both (eqb (fieldAt (placeOf f i)) f) (eqb (bitIn (placeOf f i)) i)))
+  unfolding found-at
+  rest = both-right (leb 1 (placeOf f i)) _ here
+
+  pub place-last : placeOf f i ≤ 144
+  place-last = leb→le (placeOf f i) 144 (both-left (leb (placeOf f i) 144) (both (eqb (fieldAt (placeOf f i)) f) (eqb (bitIn (placeOf f i)) i)) rest)
+
+  named : T (both (eqb (fieldAt (placeOf f i)) f) (eqb (bitIn (placeOf f i)) i))
+  named = both-right (leb (placeOf f i) 144) (both (eqb (fieldAt (placeOf f i)) f) (eqb (bitIn (placeOf f i)) i)) rest
+
+  pub field-of-place : fieldAt (placeOf f i) ≡ f
+  field-of-place = eqb→eq (fieldAt (placeOf f i)) f (both-left (eqb (fieldAt (placeOf f i)) f) (eqb (bitIn (placeOf f i)) i) named)
+
+  pub bit-of-place : bitIn (placeOf f i) ≡ i
+  bit-of-place = eqb→eq (bitIn (placeOf f i)) i (both-right (eqb (fieldAt (placeOf f i)) f) (eqb (bitIn (placeOf f i)) i) named)
+
+-- and of each place the bit that stands there
+pub field-small : (p : ℕ) → 1 ≤ p → p ≤ 144 → fieldAt p < 29
+field-small zero a h = absurd (omega arith)
+field-small (suc k) a h = rw (sub-one (suc k)) (field-below k h)
+
+pub bit-small : (p : ℕ) → 1 ≤ p → p ≤ 144 → bitIn p < bitsIn (fieldAt p)
+bit-small zero a h = absurd (omega arith)
+bit-small (suc k) a h = rw (sub-one (suc k)) (bit-in-field k h)
+
+pub place-of-here : (p : ℕ) → 1 ≤ p → p ≤ 144 → placeOf (fieldAt p) (bitIn p) ≡ p
+unfolding here-first
+place-of-here zero a h = absurd (omega arith)
+place-of-here (suc k) a h =
+    rw (sub-one (suc k))
+    (eqb→eq (placeOf (fieldOf (getD places k (HP 0))) (bitOf (getD places k (HP 0)))) (suc k)
+    (at (HP 0) here-first places all-first k (subst (λ (n : ℕ). k < n) (sym length-places) h)))
+
+pub scattered : (f : ℕ) → f < 29 → Scattered 144 fieldAt bitIn f (bitsIn f) (placeOf f)
+scattered f h =
+    record {
+      first = λ i l. place-first f i h l;
+      last = λ i l. place-last f i h l;
+      owned = λ i l. field-of-place f i h l;
+      ranked = λ i l. bit-of-place f i h l;
+      below = λ q a l e. subst (λ (g : ℕ). bitIn q < bitsIn g) e (bit-small q a l);
+      only = λ q a l e. subst (λ (g : ℕ). placeOf g (bitIn q) ≡ q) e (place-of-here q a l);
+    }
+
+-- an index read is the number with the bits at the field's places
+module _ (b : ℕ → ℕ) (f : ℕ) (h : f < 29) where
+  pub value-collected : valueOf b f ≡ fromBits (λ i. b (placeOf f i)) (bitsIn f)
+  unfolding valueOf
+  value-collected = collected (scattered f h) b
+
+  pub value-small : ((p : ℕ) → b p < 2) → valueOf b f < 2 ^ bitsIn f
+  value-small bits = rw value-collected (fromBits-lt (λ i. b (placeOf f i)) (bitsIn f) (λ i l. bits (placeOf f i)))
+
+  pub value-bit : ((p : ℕ) → b p < 2) → (i : ℕ) → i < bitsIn f → bit (valueOf b f) i ≡ b (placeOf f i)
+  value-bit bits i l = rw value-collected (bit-fromBits (λ i. b (placeOf f i)) (bitsIn f) i (λ k m. bits (placeOf f k)) l)

@@ -1,0 +1,232 @@
+-- Correction on the list of indices is correction on the bits of the frame.
+-- Assumes nothing.
+use mathlib.Core.Path.{_≡_, _∙_, sym, refl, ap, subst}
+use mathlib.Core.Bool.{Bool, true, false, cond}
+use mathlib.Core.List.{List, map}
+use Prim.Native.Nat.{ℕ, zero, suc, _+_, _-_, _*_, _/_, _%_, _^_, _<_, _≤_}
+use native.Mathlib.Omega.{arith}
+use native.Mathlib.Decide.{ℕ-discrete}
+use native.Mathlib.Numerals.{sub-one}
+use borrow.Author.Tests.{eq-eqb, ne-eqb}
+use lib.Bits.{bitXor, xor-lt}
+use lib.Dec.{T, eqb, eqb→eq, ltb, ltb→lt}
+use lib.ListN.{length, getD, set, length-set}
+use lib.Pow.{pow-lt}
+use lib.Seq.{getD-set-same, getD-set-other}
+use Rattle.laws.specs.Table.{every, both}
+use Rattle.laws.specs.Total.{total, bit, fromBits}
+use Rattle.laws.specs.Tabulate.{tabulate}
+use Rattle.laws.proofs.Table.{at, both-left, both-right}
+use Rattle.laws.proofs.Total.{total-cong}
+use Rattle.laws.proofs.Tabulate.{length-tabulate, getD-tabulate, tabulate-cong}
+use Rattle.laws.proofs.Bits.{fromBits-lt, fromBits-cong, same-bits, bit-xor, bit-pow, bit-pow-other}
+use Rattle.frame.specs.Places.{Name, fieldOf, bitOf, fieldAt, bitIn, bitsIn, placeOf}
+use Rattle.frame.specs.Places.Name.{HP}
+use Rattle.frame.specs.Parity.{guarded, guardedName, guardedPlace, check, numberOf, number, inverted, invertedAt, mended}
+use Rattle.frame.specs.Frame.{share, valueOf, recordOf}
+use Rattle.frame.specs.Steps.{guardedEntries, bitOfEntry, inverting, mendedFields, recordBy}
+use Rattle.frame.proofs.Fields.{value-small, value-bit, place-first, place-last, field-of-place, bit-of-place}
+use Rattle.frame.proofs.Number.{guardedBits}
+
+-- the field and the bit of correction number n
+abbrev pub guardedField : ℕ → ℕ
+guardedField n = fieldOf (guardedName n)
+
+abbrev pub guardedBit : ℕ → ℕ
+guardedBit n = bitOf (guardedName n)
+
+-- each guarded bit is a bit of a field, and its entry is made of the two
+sound : ℕ → Name → Bool
+sound k x =
+    both (ltb (fieldOf x) 29)
+    (both (ltb (bitOf x) (bitsIn (fieldOf x)))
+    (both (eqb (getD guardedEntries k 0 / 16) (fieldOf x)) (eqb (getD guardedEntries k 0 % 16) (bitOf x))))
+
+all-sound : T (every sound 0 guarded)
+unfolding sound guardedEntries
+all-sound = tt
+
+place-is : (n : ℕ) → 1 ≤ n → guardedPlace n ≡ placeOf (guardedField n) (guardedBit n)
+unfolding guardedPlace
+place-is zero a = absurd (omega arith)
+place-is (suc n) a = refl
+
+module _ (n : ℕ) (a : 1 ≤ n) (h : n ≤ 15) where
+  here : T (sound (n - 1) (guardedName n))
+  here = at (HP 0) sound guarded all-sound (n - 1) below
+    where
+      below : n - 1 < 15
+      below = omega arith
+
+  pub guarded-field-small : guardedField n < 29
+  unfolding sound
+  guarded-field-small = ltb→lt (guardedField n) 29 (both-left (ltb (guardedField n) 29) _ here)
+
+  rest : T (both (ltb (guardedBit n) (bitsIn (guardedField n))) (both (eqb (getD guardedEntries (n - 1) 0 / 16) (guardedField n)) (eqb (getD guardedEntries (n - 1) 0 % 16) (guardedBit n))))
+  unfolding sound
+  rest = both-right (ltb (guardedField n) 29) _ here
+
+  pub guarded-bit-small : guardedBit n < bitsIn (guardedField n)
+  guarded-bit-small = ltb→lt (guardedBit n) (bitsIn (guardedField n)) (both-left (ltb (guardedBit n) (bitsIn (guardedField n))) (both (eqb (getD guardedEntries (n - 1) 0 / 16) (guardedField n)) (eqb (getD guardedEntries (n - 1) 0 % 16) (guardedBit n))) rest)
+
+  parts : T (both (eqb (getD guardedEntries (n - 1) 0 / 16) (guardedField n)) (eqb (getD guardedEntries (n - 1) 0 % 16) (guardedBit n)))
+  parts = both-right (ltb (guardedBit n) (bitsIn (guardedField n))) (both (eqb (getD guardedEntries (n - 1) 0 / 16) (guardedField n)) (eqb (getD guardedEntries (n - 1) 0 % 16) (guardedBit n))) rest
+
+  entry-field : getD guardedEntries (n - 1) 0 / 16 ≡ guardedField n
+  entry-field = eqb→eq (getD guardedEntries (n - 1) 0 / 16) (guardedField n) (both-left (eqb (getD guardedEntries (n - 1) 0 / 16) (guardedField n)) (eqb (getD guardedEntries (n - 1) 0 % 16) (guardedBit n)) parts)
+
+  entry-bit : getD guardedEntries (n - 1) 0 % 16 ≡ guardedBit n
+  entry-bit = eqb→eq (getD guardedEntries (n - 1) 0 % 16) (guardedBit n) (both-right (eqb (getD guardedEntries (n - 1) 0 / 16) (guardedField n)) (eqb (getD guardedEntries (n - 1) 0 % 16) (guardedBit n)) parts)
+
+  -- the bit that its entry names, in a list of indices
+  pub guarded-entry : (u : List ℕ) → guardedBits u n ≡ bit (getD u (guardedField n) 0) (guardedBit n)
+  guarded-entry u = rw (entry-field, entry-bit)
+
+  -- its place, in the table
+  pub guarded-place : guardedPlace n ≡ placeOf (guardedField n) (guardedBit n)
+  guarded-place = place-is n a
+
+  pub guarded-first : 1 ≤ guardedPlace n
+  guarded-first = rw guarded-place (place-first (guardedField n) (guardedBit n) guarded-field-small guarded-bit-small)
+
+  pub guarded-last : guardedPlace n ≤ 144
+  guarded-last = rw guarded-place (place-last (guardedField n) (guardedBit n) guarded-field-small guarded-bit-small)
+
+  pub field-of-guarded : fieldAt (guardedPlace n) ≡ guardedField n
+  field-of-guarded = rw guarded-place (field-of-place (guardedField n) (guardedBit n) guarded-field-small guarded-bit-small)
+
+  pub bit-of-guarded : bitIn (guardedPlace n) ≡ guardedBit n
+  bit-of-guarded = rw guarded-place (bit-of-place (guardedField n) (guardedBit n) guarded-field-small guarded-bit-small)
+
+module _ (b : ℕ → ℕ) (bits : (p : ℕ) → b p < 2) where
+  -- the correction number is below 16
+  pub number-small : number b < 16
+  unfolding number
+  number-small = fromBits-lt (check (λ n. b (guardedPlace n))) 4 (λ i h. omega arith)
+
+  -- correction leaves bits
+  pub mended-bits : (p : ℕ) → mended b p < 2
+  unfolding mended
+  mended-bits p = go (eqb p (guardedPlace (number b)))
+    where
+      go : (t : Bool) → cond t (inverted (b p)) (b p) < 2
+      go true = omega arith
+      go false = bits p
+
+  -- and changes one place at most
+  pub mended-same : (p : ℕ) → (p ≡ guardedPlace (number b) → ⊥) → mended b p ≡ b p
+  unfolding mended
+  mended-same p e = rw (ne-eqb p (guardedPlace (number b)) e)
+
+  pub mended-there : (p : ℕ) → p ≡ guardedPlace (number b) → mended b p ≡ inverted (b p)
+  unfolding mended
+  mended-there p e = rw (eq-eqb p (guardedPlace (number b)) e)
+
+  -- the indices in the frame, by field
+  abbrev v : List ℕ
+  v = tabulate (valueOf b) 29
+
+  at-field : (f : ℕ) → f < 29 → getD v f 0 ≡ valueOf b f
+  at-field f h = getD-tabulate (valueOf b) 0 29 f h
+
+  -- the guarded bits of the list of indices are those of the frame
+  guarded-bits : (n : ℕ) → 1 ≤ n → n ≤ 15 → guardedBits v n ≡ b (guardedPlace n)
+  guarded-bits n a h =
+      guarded-entry n a h v
+      ∙ ap (λ (x : ℕ). bit x (guardedBit n)) (at-field (guardedField n) (guarded-field-small n a h))
+      ∙ value-bit b (guardedField n) (guarded-field-small n a h) bits (guardedBit n) (guarded-bit-small n a h)
+      ∙ ap b (sym (guarded-place n a h))
+
+  pub number-of-fields : numberOf (guardedBits v) ≡ number b
+  unfolding number
+  number-of-fields =
+      fromBits-cong (check (guardedBits v)) (check (λ n. b (guardedPlace n))) 4
+      (λ i h. ap (λ (k : ℕ). k % 2)
+      (total-cong (λ n. bit n i * guardedBits v n) (λ n. bit n i * b (guardedPlace n)) 15 (λ n a l. ap (λ (x : ℕ). bit n i * x) (guarded-bits n a l))))
+
+  -- a field away from the mended place keeps its index
+  away : (f : ℕ) → ((q : ℕ) → 1 ≤ q → q ≤ 144 → fieldAt q ≡ f → q ≡ guardedPlace (number b) → ⊥) → valueOf b f ≡ valueOf (mended b) f
+  unfolding valueOf
+  away f e = total-cong (share b f) (share (mended b) f) 144 (λ q a l. go q a l (ℕ-discrete (fieldAt q) f))
+    where
+      go : (q : ℕ) → 1 ≤ q → q ≤ 144 → Dec (fieldAt q ≡ f) → share b f q ≡ share (mended b) f q
+      go q a l (yes o) = ap (λ (x : ℕ). cond (eqb (fieldAt q) f) (x * 2 ^ bitIn q) 0) (sym (mended-same q (e q a l o)))
+      go q a l (no o) = rw (ne-eqb (fieldAt q) f o)
+
+  none-at-zero : number b ≡ 0 → (q : ℕ) → 1 ≤ q → q ≡ guardedPlace (number b) → ⊥
+  unfolding guardedPlace
+  none-at-zero e q a w = let z : guardedPlace (number b) ≡ 0 = ap guardedPlace e in omega (arith, z)
+
+  module _ (a : 1 ≤ number b) where
+    h : number b ≤ 15
+    h = let s = number-small in omega (arith, s)
+
+    abbrev F : ℕ
+    F = guardedField (number b)
+
+    abbrev K : ℕ
+    K = guardedBit (number b)
+
+    -- the bits of the field that holds the mended bit
+    mended-bit : (i : ℕ) → i < bitsIn F → bit (bitXor (valueOf b F) (2 ^ K)) i ≡ bit (valueOf (mended b) F) i
+    mended-bit i l =
+        bit-xor (valueOf b F) (2 ^ K) i
+        ∙ ap (λ (x : ℕ). (x + bit (2 ^ K) i) % 2) (value-bit b F (guarded-field-small (number b) a h) bits i l)
+        ∙ go (ℕ-discrete i K)
+        ∙ sym (value-bit (mended b) F (guarded-field-small (number b) a h) mended-bits i l)
+      where
+        go : Dec (i ≡ K) → (b (placeOf F i) + bit (2 ^ K) i) % 2 ≡ mended b (placeOf F i)
+        go (yes e) =
+            rw (e, bit-pow K) (sym (mended-there (placeOf F K) (sym (guarded-place (number b) a h))))
+        go (no e) =
+            let z = bit-pow-other K i e in
+            let s = bits (placeOf F i) in
+            let same : b (placeOf F i) ≡ mended b (placeOf F i) = sym (mended-same (placeOf F i) apart) in
+            omega (arith, z, s, same)
+          where
+            apart : placeOf F i ≡ guardedPlace (number b) → ⊥
+            apart w =
+                e (sym (bit-of-place F i (guarded-field-small (number b) a h) l)
+                ∙ ap bitIn (w ∙ guarded-place (number b) a h)
+                ∙ bit-of-place F K (guarded-field-small (number b) a h) (guarded-bit-small (number b) a h))
+
+    mended-value : bitXor (valueOf b F) (2 ^ K) ≡ valueOf (mended b) F
+    mended-value =
+        same-bits (bitsIn F) (bitXor (valueOf b F) (2 ^ K)) (valueOf (mended b) F)
+        (xor-lt (bitsIn F) (valueOf b F) (2 ^ K) (value-small b F (guarded-field-small (number b) a h) bits) (pow-lt (guarded-bit-small (number b) a h)))
+        (value-small (mended b) F (guarded-field-small (number b) a h) mended-bits)
+        mended-bit
+
+    at-mended : (f : ℕ) → f < 29 → Dec (f ≡ F) → getD (set v F (bitXor (getD v F 0) (2 ^ K))) f 0 ≡ valueOf (mended b) f
+    at-mended f l (yes e) =
+        rw e
+        (getD-set-same v F (bitXor (getD v F 0) (2 ^ K)) 0 (rw (length-tabulate (valueOf b) 29) (guarded-field-small (number b) a h))
+        ∙ ap (λ (x : ℕ). bitXor x (2 ^ K)) (at-field F (guarded-field-small (number b) a h))
+        ∙ mended-value)
+    at-mended f l (no e) =
+        getD-set-other v F f (bitXor (getD v F 0) (2 ^ K)) 0 e ∙ at-field f l
+        ∙ away f (λ q p r o w. e (sym o ∙ ap fieldAt w ∙ field-of-guarded (number b) a h))
+
+  -- the mended list of indices holds the indices of the mended bits
+  pub mended-fields : (f : ℕ) → f < 29 → getD (mendedFields v (number b)) f 0 ≡ valueOf (mended b) f
+  unfolding mendedFields
+  mended-fields f l = go (ℕ-discrete (number b) 0)
+    where
+      go : Dec (number b ≡ 0) → getD (cond (eqb (number b) 0) v (inverting v (getD guardedEntries (number b - 1) 0))) f 0 ≡ valueOf (mended b) f
+      go (yes e) = rw (eq-eqb (number b) 0 e) (at-field f l ∙ away f (λ q p r o w. none-at-zero e q p w))
+      go (no e) =
+          rw (ne-eqb (number b) 0 e)
+          (rw (entry-field (number b) one (h one), entry-bit (number b) one (h one)) (at-mended one f l (ℕ-discrete f (F one))))
+        where
+          one : 1 ≤ number b
+          one = omega (arith, e)
+
+  -- so the record read is that of the mended bits
+  pub record-read : recordBy (mendedFields v (number b)) ≡ recordOf (mended b)
+  record-read = λ i. record { lsp = parameters i; subframes = indices i; sp = mended-fields 27 (omega arith) i; sy = mended-fields 28 (omega arith) i }
+    where
+      parameters : tabulate (λ k. getD (mendedFields v (number b)) (k + 1) 0) 10 ≡ tabulate (λ k. valueOf (mended b) (k + 1)) 10
+      parameters = tabulate-cong (λ k. getD (mendedFields v (number b)) (k + 1) 0) (λ k. valueOf (mended b) (k + 1)) 10 (λ k l. mended-fields (k + 1) (omega arith))
+
+      indices : tabulate (λ k. getD (mendedFields v (number b)) (k + 11) 0) 16 ≡ tabulate (λ k. valueOf (mended b) (k + 11)) 16
+      indices = tabulate-cong (λ k. getD (mendedFields v (number b)) (k + 11) 0) (λ k. valueOf (mended b) (k + 11)) 16 (λ k l. mended-fields (k + 11) (omega arith))

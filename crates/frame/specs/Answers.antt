@@ -1,0 +1,81 @@
+-- What reading and writing answer: the cases, and the numbers that document 01 gives them.
+use mathlib.Core.Bool.{Bool, cond}
+use mathlib.Core.List.{List, [], _∷_}
+use Prim.Native.Nat.{ℕ}
+use lib.Dec.{eqb}
+use lib.ListN.{length}
+use Rattle.laws.specs.Tabulate.{tabulate}
+use Rattle.record.specs.Fields.{tooLarge}
+use Rattle.record.specs.declared.Record.{Record}
+use Rattle.lsp.specs.Table.{hertzOf}
+use Rattle.lsp.specs.Order.{markOf}
+use Rattle.frame.specs.Parity.{number, mended}
+use Rattle.frame.specs.Frame.{bitAt, recordOf, frameOf}
+use Rattle.frame.specs.declared.Verdict.{Verdict}
+use Rattle.frame.specs.declared.Verdict.the-variants as Verdict
+use Rattle.frame.specs.declared.Reading.{Reading}
+use Rattle.frame.specs.declared.Written.{Written}
+use Rattle.frame.specs.declared.Written.the-variants as Written
+
+-- the order mark of a record
+unfoldable pub recordMark : Record → ℕ
+recordMark r = markOf (hertzOf (r .lsp))
+
+-- a record of nothing but 0
+abbrev pub noRecord : Record
+noRecord = record { lsp = tabulate (λ k. 0) 10; subframes = tabulate (λ k. 0) 16; sp = 0; sy = 0 }
+
+-- what is read in the bits b of a frame: the record after correction, the correction number, the order mark
+abbrev pub readIn : (ℕ → ℕ) → Reading
+readIn b =
+    record {
+      verdict = Verdict.Read;
+      indices = recordOf (mended b);
+      number = number b;
+      mark = recordMark (recordOf (mended b));
+    }
+
+-- any bytes; a frame that is not eighteen of them is refused, and nothing is read then
+unfoldable pub readingOf : List ℕ → Reading
+readingOf s =
+    cond (eqb (length s) 18) (readIn (bitAt s))
+    (record { verdict = Verdict.WrongLength; indices = noRecord; number = 0; mark = 0 })
+
+-- what a record to write gets, given the length of the lent buffer: lowest refusal number first
+unfoldable pub writtenOf : Record → ℕ → Written
+writtenOf r n =
+    cond (eqb n 18)
+    (cond (eqb (tooLarge r) 0)
+    (cond (eqb (recordMark r) 0) (cond (eqb (r .sp) 0) Written.Frame Written.Expansion) (Written.Falling (recordMark r)))
+    (Written.TooLarge (tooLarge r)))
+    Written.WrongLength
+
+-- what a buffer holds after an answer: the frame, or what it held
+abbrev pub leftBy : Written → List ℕ → List ℕ → List ℕ
+leftBy Written.Frame new old = new
+leftBy Written.WrongLength new old = old
+leftBy (Written.TooLarge f) new old = old
+leftBy (Written.Falling m) new old = old
+leftBy Written.Expansion new old = old
+
+unfoldable pub frameLeft : Record → List ℕ → List ℕ
+frameLeft r s = leftBy (writtenOf r (length s)) (frameOf r) s
+
+-- the refusal numbers of document 01 and what each tells; 0 is no refusal
+abbrev pub readRefusal : Verdict → ℕ
+readRefusal Verdict.Read = 0
+readRefusal Verdict.WrongLength = 1
+
+abbrev pub refusalOf : Written → ℕ
+refusalOf Written.Frame = 0
+refusalOf Written.WrongLength = 1
+refusalOf (Written.TooLarge f) = 2
+refusalOf (Written.Falling m) = 3
+refusalOf Written.Expansion = 6
+
+abbrev pub tellsOf : Written → List ℕ
+tellsOf Written.Frame = []
+tellsOf Written.WrongLength = []
+tellsOf (Written.TooLarge f) = f ∷ []
+tellsOf (Written.Falling m) = m ∷ []
+tellsOf Written.Expansion = []

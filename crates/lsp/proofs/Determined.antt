@@ -1,0 +1,24 @@
+-- Each contract determines the answer: any two results that it allows are equal.
+-- Assumes nothing.
+use mathlib.Core.Path.{_≡_, _∙_, sym}
+use contract.Lifetimes.{Lfts}
+use denote.Triple.Clauses.{AtExit}
+use borrow.Fn.Kinds.{Dens, resT, endedOf}
+use Rattle.lsp.proofs.hertz.Kinds as hertz
+use Rattle.lsp.proofs.hertz.Reads as hertz-reads
+use Rattle.lsp.proofs.order_mark.Kinds as order-mark
+use Rattle.lsp.proofs.order_mark.Reads as order-mark-reads
+use Rattle.lsp.proofs.averages.Kinds as averages
+use Rattle.lsp.proofs.averages.Reads as averages-reads
+
+pub hertz-determined : (κs : Lfts 0) (a : Dens κs hertz.ps) (r₁ r₂ : resT hertz.r κs .Denot) (x₁ x₂ : AtExit (endedOf 0 hertz.ps hertz.r) κs)
+    → hertz-reads.Post κs a r₁ x₁ → hertz-reads.Post κs a r₂ x₂ → r₁ ≡ r₂
+hertz-determined κs a r₁ r₂ x₁ x₂ p q = p ∙ sym q
+
+pub order-mark-determined : (κs : Lfts 0) (a : Dens κs order-mark.ps) (r₁ r₂ : resT order-mark.r κs .Denot) (x₁ x₂ : AtExit (endedOf 0 order-mark.ps order-mark.r) κs)
+    → order-mark-reads.Post κs a r₁ x₁ → order-mark-reads.Post κs a r₂ x₂ → r₁ ≡ r₂
+order-mark-determined κs a r₁ r₂ x₁ x₂ p q = p ∙ sym q
+
+pub averages-determined : (κs : Lfts 0) (a : Dens κs averages.ps) (r₁ r₂ : resT averages.r κs .Denot) (x₁ x₂ : AtExit (endedOf 0 averages.ps averages.r) κs)
+    → averages-reads.Post κs a r₁ x₁ → averages-reads.Post κs a r₂ x₂ → r₁ ≡ r₂
+averages-determined κs a r₁ r₂ x₁ x₂ p q = p ∙ sym q

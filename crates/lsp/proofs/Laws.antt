@@ -1,0 +1,178 @@
+-- What the definitions of specs/ say, for whoever cites the contracts: the table, the order mark, the averages.
+-- Assumes nothing.
+use mathlib.Core.Path.{_≡_, _∙_, sym, refl, ap, subst}
+use mathlib.Core.Bool.{Bool, true, cond}
+use mathlib.Core.List.{List, []}
+use Prim.Native.Nat.{ℕ, zero, suc, _+_, _*_, _-_, _%_, _^_, _<_, _≤_, min, max}
+use native.Mathlib.Omega.{arith}
+use native.Mathlib.Nat.{min-le-left, min-le-right, le-max-left, le-max-right, mod-lt, mod-eq-of-lt}
+use native.Mathlib.Decide.{decLt}
+use lib.Dec.{T, leb, ltb, eqb, leb→le, ltb→lt, eqb→eq}
+use lib.ListN.{length, getD, drop}
+use lib.Pow.{pow-pos}
+use lib.Seq.{getD-take, getD-drop}
+use borrow.Author.Tests.{ltb-true, ltb-false, lt-ltb, le-ltb}
+use Rattle.laws.specs.Table.{both, every}
+use Rattle.laws.specs.Lowest.{lowest}
+use Rattle.laws.proofs.Table.{at, both-left, both-right}
+use Rattle.laws.proofs.Tabulate.{length-tabulate, getD-tabulate}
+use Rattle.laws.proofs.Lowest.{lowest-at, lowest-none, lowest-zero, lowest-found}
+use Rattle.lsp.specs.Table.{bits, hzTable, column, hzOf, lsp, hzAt, hertzOf}
+use Rattle.lsp.specs.Order.{falls, markOf, InOrder}
+use Rattle.lsp.specs.Average.{averageOf, averageAt, averagesOf, subframe}
+use Rattle.lsp.proofs.Columns.{from-one}
+use Rattle.lsp.proofs.Weights.{eighths, eighths-at}
+
+-- ---- the order mark
+
+-- a mark of 0 says that all neighbours are in order, and the other way round
+pub mark-in-order : (hz : List ℕ) → markOf hz ≡ 0 → InOrder hz
+unfolding markOf
+mark-in-order hz e j a b = ltb-false _ _ (lowest-zero (falls hz) 9 e j a b)
+
+pub in-order-mark : (hz : List ℕ) → InOrder hz → markOf hz ≡ 0
+unfolding markOf
+in-order-mark hz o = lowest-none (falls hz) 9 (λ j a b. le-ltb _ _ (o j a b))
+
+-- any other mark is the lowest j for which LSP j+1 is below LSP j, and the other way round
+pub mark-falls : (hz : List ℕ) (j : ℕ) → markOf hz ≡ j → 1 ≤ j
+    → (j ≤ 9) × (lsp hz (j + 1) < lsp hz j) × ((m : ℕ) → 1 ≤ m → m < j → lsp hz m ≤ lsp hz (m + 1))
+unfolding markOf
+mark-falls hz j e q =
+    let r = lowest-found (falls hz) 9 j e q in
+    (r .0, ltb-true _ _ (r .1), λ m a b. ltb-false _ _ (r .2 m a b))
+
+pub falls-mark : (hz : List ℕ) (j : ℕ) → 1 ≤ j → j ≤ 9 → lsp hz (j + 1) < lsp hz j
+    → ((m : ℕ) → 1 ≤ m → m < j → lsp hz m ≤ lsp hz (m + 1)) → markOf hz ≡ j
+unfolding markOf
+falls-mark hz j a b f none = lowest-at (falls hz) 9 j a b (λ m p q. le-ltb _ _ (none m p q)) (lt-ltb _ _ f)
+
+pub mark-most : (hz : List ℕ) → markOf hz ≤ 9
+mark-most hz = go (decLt 0 (markOf hz))
+  where
+    go : Dec (0 < markOf hz) → markOf hz ≤ 9
+    go (yes h) = mark-falls hz (markOf hz) refl h .0
+    go (no h) = omega arith
+
+-- ---- the averages
+
+-- a subframe is one of four
+pub of-four : (p : ℕ → Type 0) (n : ℕ) → 1 ≤ n → n ≤ 4 → p 1 → p 2 → p 3 → p 4 → p n
+of-four p zero a b p₁ p₂ p₃ p₄ = absurd (omega arith)
+of-four p (suc zero) a b p₁ p₂ p₃ p₄ = p₁
+of-four p (suc (suc zero)) a b p₁ p₂ p₃ p₄ = p₂
+of-four p (suc (suc (suc zero))) a b p₁ p₂ p₃ p₄ = p₃
+of-four p (suc (suc (suc (suc zero)))) a b p₁ p₂ p₃ p₄ = p₄
+of-four p (suc (suc (suc (suc (suc n))))) a b p₁ p₂ p₃ p₄ = absurd (omega arith)
+
+-- an average lies between the two values
+pub average-least : (n a b : ℕ) → 1 ≤ n → n ≤ 4 → 8 * min a b ≤ averageOf n a b
+average-least n a b p q =
+    let l : min a b ≤ a = min-le-left a b in
+    let r : min a b ≤ b = min-le-right a b in
+    of-four (λ m. 8 * min a b ≤ averageOf m a b) n p q (omega arith) (omega arith) (omega arith) (omega arith)
+
+pub average-most : (n a b : ℕ) → 1 ≤ n → n ≤ 4 → averageOf n a b ≤ 8 * max a b
+average-most n a b p q =
+    let l : a ≤ max a b = le-max-left a b in
+    let r : b ≤ max a b = le-max-right a b in
+    of-four (λ m. averageOf m a b ≤ 8 * max a b) n p q (omega arith) (omega arith) (omega arith) (omega arith)
+
+-- of a value with itself it is eight times that
+pub average-same : (n a : ℕ) → 1 ≤ n → n ≤ 4 → averageOf n a a ≡ 8 * a
+average-same n a p q = of-four (λ m. averageOf m a a ≡ 8 * a) n p q (omega arith) (omega arith) (omega arith) (omega arith)
+
+-- it is no less where both values are no less
+pub average-rises : (n a b c d : ℕ) → 1 ≤ n → n ≤ 4 → a ≤ c → b ≤ d → averageOf n a b ≤ averageOf n c d
+average-rises n a b c d p q h g =
+    of-four (λ m. averageOf m a b ≤ averageOf m c d) n p q (omega arith) (omega arith) (omega arith) (omega arith)
+
+module _ (previous present : List ℕ) where
+  pub averages-long : length (averagesOf previous present) ≡ 40
+  unfolding averagesOf
+  averages-long = length-tabulate (eighths previous present) 40
+
+  -- at place 10(n-1) + (j-1) stands LSP j in subframe n
+  pub averages-at : (n j : ℕ) → 1 ≤ n → n ≤ 4 → 1 ≤ j → j ≤ 10
+      → getD (averagesOf previous present) (10 * (n - 1) + (j - 1)) 0 ≡ averageAt previous present n j
+  unfolding averagesOf
+  averages-at n j a b c d =
+      let e : n - 1 + 1 ≡ n = omega arith in
+      getD-tabulate (eighths previous present) 0 40 (10 * (n - 1) + (j - 1)) (omega arith)
+      ∙ eighths-at previous present (n - 1) (j - 1) (10 * (n - 1) + (j - 1)) (omega arith) refl
+      ∙ ap (λ (m : ℕ). averageOf m (lsp previous j) (lsp present j)) e
+
+  -- LSP j of the ten of subframe n
+  pub subframe-at : (n j : ℕ) → 1 ≤ n → n ≤ 4 → 1 ≤ j → j ≤ 10
+      → lsp (subframe n (averagesOf previous present)) j ≡ averageAt previous present n j
+  subframe-at n j a b c d =
+      let l : List ℕ = averagesOf previous present in
+      getD-take 10 (drop (10 * (n - 1)) l) (j - 1) 0 (omega arith) ∙ getD-drop (10 * (n - 1)) l (j - 1) 0 ∙ averages-at n j a b c d
+
+  -- where both frames are in order, the averages are in each subframe
+  pub averages-in-order : (n : ℕ) → 1 ≤ n → n ≤ 4 → markOf previous ≡ 0 → markOf present ≡ 0
+      → markOf (subframe n (averagesOf previous present)) ≡ 0
+  averages-in-order n a b p q =
+      in-order-mark _
+      (λ j c d.
+      rw (subframe-at n j a b c (omega arith), subframe-at n (j + 1) a b (omega arith) (omega arith))
+      (average-rises n _ _ _ _ a b (mark-in-order previous p j c d) (mark-in-order present q j c d)))
+
+-- where the previous values are the present ones, each average is eight times the value
+pub averages-same : (hz : List ℕ) (n j : ℕ) → 1 ≤ n → n ≤ 4 → 1 ≤ j → j ≤ 10 → getD (averagesOf hz hz) (10 * (n - 1) + (j - 1)) 0 ≡ 8 * lsp hz j
+averages-same hz n j a b c d = averages-at hz hz n j a b c d ∙ average-same n (lsp hz j) a b
+
+-- ---- the table
+
+-- every entry is from 100 to 3,830 Hz
+abbrev within : ℕ → ℕ → Bool
+within k x = both (leb 100 x) (leb x 3830)
+
+-- an entry with a next one is below it
+abbrev below-next : List ℕ → ℕ → ℕ → Bool
+below-next c k x = cond (ltb (k + 1) (length c)) (ltb x (getD c (k + 1) 0)) true
+
+next-above : (c : List ℕ) (k : ℕ) → T (below-next c k (getD c k 0)) → k + 1 < length c → getD c k 0 < getD c (k + 1) 0
+next-above c k t h =
+    let e : ltb (k + 1) (length c) ≡ true = lt-ltb (k + 1) (length c) h in
+    ltb→lt _ _ (rw e at t)
+
+module _ (j : ℕ) (a : 1 ≤ j) (b : j ≤ 10) where
+  -- a column has an entry for each index of its bits
+  pub column-long : length (column j) ≡ 2 ^ getD bits (j - 1) 0
+  unfolding hzTable
+  column-long = eqb→eq _ _ (at [] (λ k c. eqb (length c) (2 ^ getD bits k 0)) hzTable tt (j - 1) (omega arith))
+
+  -- an index that has no more bits counts as it is
+  pub hz-plain : (index : ℕ) → index < 2 ^ getD bits (j - 1) 0 → hzOf j index ≡ getD (column j) index 0
+  hz-plain index h = ap (λ (k : ℕ). getD (column j) k 0) (mod-eq-of-lt (subst (λ (n : ℕ). index < n) (sym column-long) h))
+
+  -- the entries rise
+  pub rises : (k : ℕ) → k + 1 < length (column j) → getD (column j) k 0 < getD (column j) (k + 1) 0
+  unfolding hzTable
+  rises k h =
+      let t = at [] (λ i c. every (below-next c) 0 c) hzTable tt (j - 1) (omega arith) in
+      next-above (column j) k (at 0 (below-next (column j)) (column j) t k (omega arith)) h
+
+  pub hz-within : (index : ℕ) → (100 ≤ hzOf j index) × (hzOf j index ≤ 3830)
+  unfolding hzTable
+  hz-within index =
+      let t = at [] (λ i c. every within 0 c) hzTable tt (j - 1) (omega arith) in
+      let h : index % length (column j) < length (column j) = mod-lt index (subst (λ (n : ℕ). 0 < n) (sym column-long) (pow-pos (getD bits (j - 1) 0))) in
+      let u = at 0 within (column j) t (index % length (column j)) h in
+      let x : ℕ = hzOf j index in
+      (leb→le 100 x (both-left (leb 100 x) (leb x 3830) u), leb→le x 3830 (both-right (leb 100 x) (leb x 3830) u))
+
+  -- LSP j of ten indices in Hz
+  pub hertz-at : (indices : List ℕ) → lsp (hertzOf indices) j ≡ hzOf j (lsp indices j)
+  unfolding hertzOf
+  hertz-at indices =
+      let e : j - 1 + 1 ≡ j = omega arith in
+      getD-tabulate (hzAt indices) 0 10 (j - 1) (omega arith) ∙ ap (λ (m : ℕ). hzOf m (lsp indices m)) e
+
+  pub hertz-within : (indices : List ℕ) → (100 ≤ lsp (hertzOf indices) j) × (lsp (hertzOf indices) j ≤ 3830)
+  hertz-within indices = rw (hertz-at indices) (hz-within (lsp indices j))
+
+pub hertz-long : (indices : List ℕ) → length (hertzOf indices) ≡ 10
+unfolding hertzOf
+hertz-long indices = length-tabulate (hzAt indices) 10

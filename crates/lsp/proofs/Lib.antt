@@ -1,0 +1,6 @@
+pub mod Columns
+pub mod Falls
+pub mod Weights
+pub mod Laws
+pub mod Worked
+pub mod Determined

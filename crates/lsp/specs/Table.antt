@@ -1,0 +1,43 @@
+-- The coding of the ten line spectral parameters (3.7.2), in Hz.
+use mathlib.Core.List.{List, [], _∷_}
+use Prim.Native.Nat.{ℕ, _+_, _-_, _%_}
+use lib.ListN.{getD, length}
+use Rattle.laws.specs.Tabulate.{tabulate}
+
+-- how many bits the index of each parameter has, LSP 1 first
+abbrev pub bits : List ℕ
+bits = 3 ∷ 4 ∷ 4 ∷ 4 ∷ 4 ∷ 3 ∷ 3 ∷ 3 ∷ 3 ∷ 3 ∷ []
+
+-- the printed table by its columns, LSP 1 first, each from index 0
+unfoldable pub hzTable : List (List ℕ)
+hzTable =
+    (100 ∷ 170 ∷ 225 ∷ 250 ∷ 280 ∷ 340 ∷ 420 ∷ 500 ∷ []) ∷
+    (210 ∷ 235 ∷ 265 ∷ 295 ∷ 325 ∷ 360 ∷ 400 ∷ 440 ∷ 480 ∷ 520 ∷ 560 ∷ 610 ∷ 670 ∷ 740 ∷ 810 ∷ 880 ∷ []) ∷
+    (420 ∷ 460 ∷ 500 ∷ 540 ∷ 585 ∷ 640 ∷ 705 ∷ 775 ∷ 850 ∷ 950 ∷ 1050 ∷ 1150 ∷ 1250 ∷ 1350 ∷ 1450 ∷ 1550 ∷ []) ∷
+    (620 ∷ 660 ∷ 720 ∷ 795 ∷ 880 ∷ 970 ∷ 1080 ∷ 1170 ∷ 1270 ∷ 1370 ∷ 1470 ∷ 1570 ∷ 1670 ∷ 1770 ∷ 1870 ∷ 1970 ∷ []) ∷
+    (1000 ∷ 1050 ∷ 1130 ∷ 1210 ∷ 1285 ∷ 1350 ∷ 1430 ∷ 1510 ∷ 1590 ∷ 1670 ∷ 1750 ∷ 1850 ∷ 1950 ∷ 2050 ∷ 2150 ∷ 2250 ∷ []) ∷
+    (1470 ∷ 1570 ∷ 1690 ∷ 1830 ∷ 2000 ∷ 2200 ∷ 2400 ∷ 2600 ∷ []) ∷
+    (1800 ∷ 1880 ∷ 1960 ∷ 2100 ∷ 2300 ∷ 2480 ∷ 2700 ∷ 2900 ∷ []) ∷
+    (2225 ∷ 2400 ∷ 2525 ∷ 2650 ∷ 2800 ∷ 2950 ∷ 3150 ∷ 3350 ∷ []) ∷
+    (2760 ∷ 2880 ∷ 3000 ∷ 3100 ∷ 3200 ∷ 3310 ∷ 3430 ∷ 3550 ∷ []) ∷
+    (3190 ∷ 3270 ∷ 3350 ∷ 3420 ∷ 3490 ∷ 3590 ∷ 3710 ∷ 3830 ∷ []) ∷
+    []
+
+-- the column of LSP j
+abbrev pub column : ℕ → List ℕ
+column j = getD hzTable (j - 1) []
+
+-- LSP j in Hz at an index, which counts by its lowest 3 or 4 bits, as the column has 8 or 16 entries
+abbrev pub hzOf : ℕ → ℕ → ℕ
+hzOf j index = getD (column j) (index % length (column j)) 0
+
+-- LSP j of a list of ten, counted from 1
+abbrev pub lsp : List ℕ → ℕ → ℕ
+lsp values j = getD values (j - 1) 0
+
+-- ten indices in Hz: at place i stands LSP i+1
+abbrev pub hzAt : List ℕ → ℕ → ℕ
+hzAt indices i = hzOf (i + 1) (lsp indices (i + 1))
+
+unfoldable pub hertzOf : List ℕ → List ℕ
+hertzOf indices = tabulate (hzAt indices) 10

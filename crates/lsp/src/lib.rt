@@ -1,0 +1,91 @@
+// The ten line spectral parameters of 3.7: an index in Hz, the order mark of ten parameters, and the averages of two frames.
+// LSP j stands at place j - 1 of a list of ten; all values are 16 bits, the averages are whole eighths of a Hz.
+ghost use mathlib.Core.Path.{_≡_};
+ghost use Prim.Native.Nat.{_+_, _%_, _<_};
+ghost use lib.ListN.{length};
+ghost use Rattle.lsp.specs.Table.{column, hertzOf};
+ghost use Rattle.lsp.specs.Order.{markOf};
+ghost use Rattle.lsp.specs.Average.{averagesOf};
+
+// The table of 3.7.2 in Hz as printed: a row for each index from 0, LSP 1 to 10 across, 0 where no entry is printed.
+const HZ: [[u16; 10]; 16] = [
+    [100, 210, 420, 620, 1000, 1470, 1800, 2225, 2760, 3190],
+    [170, 235, 460, 660, 1050, 1570, 1880, 2400, 2880, 3270],
+    [225, 265, 500, 720, 1130, 1690, 1960, 2525, 3000, 3350],
+    [250, 295, 540, 795, 1210, 1830, 2100, 2650, 3100, 3420],
+    [280, 325, 585, 880, 1285, 2000, 2300, 2800, 3200, 3490],
+    [340, 360, 640, 970, 1350, 2200, 2480, 2950, 3310, 3590],
+    [420, 400, 705, 1080, 1430, 2400, 2700, 3150, 3430, 3710],
+    [500, 440, 775, 1170, 1510, 2600, 2900, 3350, 3550, 3830],
+    [0, 480, 850, 1270, 1590, 0, 0, 0, 0, 0],
+    [0, 520, 950, 1370, 1670, 0, 0, 0, 0, 0],
+    [0, 560, 1050, 1470, 1750, 0, 0, 0, 0, 0],
+    [0, 610, 1150, 1570, 1850, 0, 0, 0, 0, 0],
+    [0, 670, 1250, 1670, 1950, 0, 0, 0, 0, 0],
+    [0, 740, 1350, 1770, 2050, 0, 0, 0, 0, 0],
+    [0, 810, 1450, 1870, 2150, 0, 0, 0, 0, 0],
+    [0, 880, 1550, 1970, 2250, 0, 0, 0, 0, 0],
+];
+
+// The ten indices in Hz. An index counts by its lowest bits, 3 or 4 as the table has 8 or 16 entries.
+pub fn hertz(indices: [u16; 10]) -> [u16; 10]
+    ensures { λ r. ⌜ r ≡ hertzOf indices ⌝ }
+{
+    let table = HZ;
+    let mut hz = indices;
+    let mut i = 0;
+    while i < 10 {
+        let index = lowest_bits(i, indices[i]);
+        hz[i] = table[index][i];
+        i += 1;
+    }
+    hz
+}
+
+// What counts of an index of LSP i+1: its lowest 4 bits for LSP 2 to 5, its lowest 3 for the others.
+fn lowest_bits(i: usize, index: u16) -> usize
+    requires { ⌜ i < 10 ⌝ }
+    ensures { λ r. ⌜ r ≡ index % length (column (i + 1)) ⌝ }
+    ensures { λ r. ⌜ r < 16 ⌝ }
+{
+    let x = index as usize;
+    if i == 0 {
+        return x % 8;
+    }
+    if i < 5 {
+        return x % 16;
+    }
+    x % 8
+}
+
+// The order mark: the lowest j for which LSP j+1 is below LSP j, or 0.
+pub fn order_mark(hz: [u16; 10]) -> usize
+    ensures { λ r. ⌜ r ≡ markOf hz ⌝ }
+{
+    let mut i = 0;
+    while i < 9 {
+        if hz[i + 1] < hz[i] {
+            return i + 1;
+        }
+        i += 1;
+    }
+    0
+}
+
+// The averages of the four subframes in eighths of a Hz, subframe 1 first.
+pub fn averages(previous: [u16; 10], present: [u16; 10]) -> [u32; 40]
+    ensures { λ r. ⌜ r ≡ averagesOf previous present ⌝ }
+{
+    let mut eighths = [0u32; 40];
+    let mut i = 0;
+    while i < 10 {
+        let a = previous[i] as u32;
+        let b = present[i] as u32;
+        eighths[i] = 7 * a + b;
+        eighths[10 + i] = 5 * a + 3 * b;
+        eighths[20 + i] = 3 * a + 5 * b;
+        eighths[30 + i] = a + 7 * b;
+        i += 1;
+    }
+    eighths
+}
