@@ -6,3 +6,7 @@ pub mod Bits
 pub mod Total
 pub mod Collected
 pub mod Placed
+pub mod Every
+pub mod Signed
+pub mod Held
+pub mod Place

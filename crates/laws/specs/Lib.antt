@@ -2,3 +2,4 @@ pub mod Table
 pub mod Lowest
 pub mod Tabulate
 pub mod Total
+pub mod Place

@@ -1,0 +1,6 @@
+pub mod Copying
+pub mod Codes
+pub mod Sixteen
+pub mod Drawing
+pub mod Laws
+pub mod Determined

@@ -1,0 +1,5 @@
+pub mod Laws
+pub mod Worked
+pub mod Apart
+pub mod Down
+pub mod Determined

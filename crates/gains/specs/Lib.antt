@@ -1,0 +1,3 @@
+pub mod Tables
+pub mod Gains
+pub mod Nearest
