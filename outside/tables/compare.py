@@ -28,11 +28,32 @@ REPOSITORY = HERE.parent.parent
 
 # What the repository holds: (file from the top of the repository, name, view of a table).
 # The views are those of `views` below: cg, pg, lsp, lsp.1 .. lsp.10, elements,
+# lsp.by-index (ten values for each index 0 to 15, 0 where a parameter has no such index),
 # codes.twelfths, codes.bytes, codes.ranks (the rank of each byte), guarded.numbers,
-# guarded.places, places.fields and places.bits (a parity bit HP-i is field 0, bit i), widths.
+# guarded.places, places.fields and places.bits (a parity bit HP-i is field 0, bit i),
+# places.entries and guarded.entries (16 times the field plus the bit), widths.
 RATTLE = [
+    ("crates/record/src/lib.rt", "WIDTHS", "widths"),
+    ("crates/gains/src/lib.rt", "CG", "cg"),
+    ("crates/gains/src/lib.rt", "PG", "pg"),
+    ("crates/delays/src/tables.rt", "TWELFTHS", "codes.twelfths"),
+    ("crates/delays/src/tables.rt", "BYTES", "codes.bytes"),
+    ("crates/delays/src/tables.rt", "RANKS", "codes.ranks"),
+    ("crates/lsp/src/lib.rt", "HZ", "lsp.by-index"),
+    ("crates/codebook/src/lib.rt", "BOOK", "elements"),
+    ("crates/frame/src/lib.rt", "TABLE", "places.entries"),
+    ("crates/frame/src/lib.rt", "GUARDED", "guarded.entries"),
 ]
 ANTT = [
+    ("crates/record/specs/Fields.antt", "widths", "widths"),
+    ("crates/gains/specs/Tables.antt", "cgTable", "cg"),
+    ("crates/gains/specs/Tables.antt", "pgTable", "pg"),
+    ("crates/delays/specs/Table.antt", "delays", "codes.twelfths"),
+    ("crates/delays/specs/Table.antt", "bytes", "codes.bytes"),
+    ("crates/lsp/specs/Table.antt", "hzTable", "lsp"),
+    ("crates/codebook/specs/Book.antt", "book", "elements"),
+    ("crates/frame/specs/Places.antt", "places", "places.entries"),
+    ("crates/frame/specs/Parity.antt", "guarded", "guarded.entries"),
 ]
 
 # Disagreements that are explained: (comparison, place) -> (held here, seen there, why).
@@ -106,6 +127,11 @@ def views(tables):
         "guarded.places": [place for _, place, _ in tables["guarded"]],
         "places.fields": [names.get(name, (-1, -1))[0] for name in tables["places"]],
         "places.bits": [names.get(name, (-1, -1))[1] for name in tables["places"]],
+        "places.entries": [16 * names.get(name, (-1, -1))[0] + names.get(name, (-1, -1))[1]
+                           for name in tables["places"]],
+        "guarded.entries": [16 * names.get(name, (-1, -1))[0] + names.get(name, (-1, -1))[1]
+                            for _, _, name in tables["guarded"]],
+        "lsp.by-index": [row[i] if i < len(row) else 0 for i in range(16) for row in tables["lsp"]],
         "widths": [width for _, width in FIELDS],
     }
     made.update({f"lsp.{j}": list(row) for j, row in enumerate(tables["lsp"], 1)})
@@ -151,8 +177,11 @@ def antt_numbers(text, name):
     """The numbers of `NAME = a ∷ b ∷ .. ∷ []` in the text, inner lists laid end to end.
 
     Lines that follow further in belong to the definition. A number may be written
-    `5`, `0x5`, `-5`, `pos 5` or `negsuc 4`, the last two standing for 5 and -5.
+    `5`, `0x5`, `-5`, `+5`, `pos 5`, `plus 5`, `negsuc 4` or `minus 5`, the last two standing
+    for -5. The name of a bit of a frame, as `PD 1 5`, `LSP 10 0`, `HP 2` or `SY`, is 16 times
+    its field plus its bit.
     """
+    names = bits()
     text = re.sub(r"--[^\n]*", "", text)
     found = re.findall(rf"^{re.escape(name)}[ \t]*=((?:[^\n]*)(?:\n[ \t]+[^\n]*|\n[ \t]*(?=\n))*)", text, re.M)
     if len(found) != 1:
@@ -162,9 +191,15 @@ def antt_numbers(text, name):
     words = []
     for item in re.split(r"∷|\[\]", found[0]):
         item = re.sub(r"-\s+", "-", item.replace("(", " ").replace(")", " ").strip())
-        form = re.fullmatch(r"(pos|negsuc)\s+(\d+)", item)
+        form = re.fullmatch(r"(pos|plus|minus|negsuc)\s+(\d+)", item)
         if form:
-            item = form[2] if form[1] == "pos" else str(-1 - int(form[2]))
+            item = str({"pos": int, "plus": int, "minus": lambda n: -int(n),
+                        "negsuc": lambda n: -1 - int(n)}[form[1]](form[2]))
+        item = re.sub(r"\A\+(?=\d)", "", item)
+        spelt = re.sub(r"\A(PD|PG|CI|CG) (\d) (\d)\Z", r"\1(\2)-\3", item)
+        spelt = re.sub(r"\A(LSP \d+|HP) (\d)\Z", r"\1-\2", spelt)
+        if spelt in names:
+            item = str(16 * names[spelt][0] + names[spelt][1])
         if item:
             words.append(item)
     return signed(words, name)
@@ -444,8 +479,10 @@ def selftest():
     antt = ("-- gains = 9 ∷ []\nunfoldable pub gains : List ℤ\ngains = negsuc 1329 ∷ pos 31 -- two\n"
             "  ∷ -3\n\n  ∷ (negsuc 0) ∷ []\n\nabbrev pub gains-back : List ℕ\ngains-back = 0x10 ∷ 2 ∷ []\n"
             "rows : List (List ℕ)\nunfolding gains\nrows =\n  (1 ∷ 2 ∷ []) ∷\n  (3 ∷ 4 ∷ []) ∷ []\n"
+            "printed = plus 5 ∷ minus 98 ∷ +1 ∷ -1 ∷ []\nbits = PD 1 5 ∷ LSP 10 0 ∷ HP 2 ∷ SP ∷ SY ∷ []\n"
             "none = []\nwords = a ∷ b ∷ []\nopened = 1 ∷ rest\njoined = 1 ∷ [] ++ rows ∷ []\nlast n = 1 ∷ []\n")
     for name, answer in (("gains", [-1330, 31, -3, -1]), ("gains-back", [16, 2]), ("rows", [1, 2, 3, 4]),
+                         ("printed", [5, -98, 1, -1]), ("bits", [181, 160, 2, 432, 448]),
                          ("none", "ValueError"), ("words", "ValueError"), ("opened", "ValueError"),
                          ("joined", "ValueError"), ("last", "ValueError"), ("back", "ValueError")):
         gives(answer, antt_numbers, antt, name)
