@@ -5,3 +5,4 @@ pub mod Packed
 pub mod Fields
 pub mod Mended
 pub mod Answered
+pub mod Laws

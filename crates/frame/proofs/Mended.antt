@@ -13,10 +13,10 @@ use lib.Dec.{T, eqb, eqb→eq, ltb, ltb→lt}
 use lib.ListN.{length, getD, set, length-set}
 use lib.Pow.{pow-lt}
 use lib.Seq.{getD-set-same, getD-set-other}
-use Rattle.laws.specs.Table.{every, both}
+use Rattle.laws.specs.Table.{every, both, allBelow}
 use Rattle.laws.specs.Total.{total, bit, fromBits}
 use Rattle.laws.specs.Tabulate.{tabulate}
-use Rattle.laws.proofs.Table.{at, both-left, both-right}
+use Rattle.laws.proofs.Table.{at, below, both-left, both-right}
 use Rattle.laws.proofs.Total.{total-cong}
 use Rattle.laws.proofs.Tabulate.{length-tabulate, getD-tabulate, tabulate-cong}
 use Rattle.laws.proofs.Bits.{fromBits-lt, fromBits-cong, same-bits, bit-xor, bit-pow, bit-pow-other}
@@ -98,6 +98,43 @@ module _ (n : ℕ) (a : 1 ≤ n) (h : n ≤ 15) where
   pub bit-of-guarded : bitIn (guardedPlace n) ≡ guardedBit n
   bit-of-guarded = rw guarded-place (bit-of-place (guardedField n) (guardedBit n) guarded-field-small guarded-bit-small)
 
+-- the entries differ, by a test over all pairs
+differ : ℕ → ℕ → Bool
+differ i j = cond (eqb (getD guardedEntries i 0) (getD guardedEntries j 0)) (eqb i j) true
+
+all-differ : T (allBelow 15 (λ i. allBelow 15 (differ i)))
+unfolding differ guardedEntries
+all-differ = tt
+
+told : (i j : ℕ) → getD guardedEntries i 0 ≡ getD guardedEntries j 0 → T (differ i j) → T (eqb i j)
+unfolding differ
+told i j e t = subst (λ (b : Bool). T (cond b (eqb i j) true)) (eq-eqb (getD guardedEntries i 0) (getD guardedEntries j 0) e) t
+
+-- so different numbers have different places
+pub guarded-apart : (n m : ℕ) → 1 ≤ n → n ≤ 15 → 1 ≤ m → m ≤ 15 → guardedPlace n ≡ guardedPlace m → n ≡ m
+guarded-apart n m a b c d e = let z = eqb→eq (n - 1) (m - 1) apart in omega (arith, z)
+  where
+    entries-same : getD guardedEntries (n - 1) 0 ≡ getD guardedEntries (m - 1) 0
+    entries-same =
+        let f : getD guardedEntries (n - 1) 0 / 16 ≡ getD guardedEntries (m - 1) 0 / 16
+                = entry-field n a b ∙ sym (field-of-guarded n a b) ∙ ap fieldAt e ∙ field-of-guarded m c d ∙ sym (entry-field m c d) in
+        let g : getD guardedEntries (n - 1) 0 % 16 ≡ getD guardedEntries (m - 1) 0 % 16
+                = entry-bit n a b ∙ sym (bit-of-guarded n a b) ∙ ap bitIn e ∙ bit-of-guarded m c d ∙ sym (entry-bit m c d) in
+        omega (arith, f, g)
+    tested : T (differ (n - 1) (m - 1))
+    tested = below (differ (n - 1)) 15 (below (λ i. allBelow 15 (differ i)) 15 all-differ (n - 1) (omega arith)) (m - 1) (omega arith)
+    apart : T (eqb (n - 1) (m - 1))
+    apart = told (n - 1) (m - 1) entries-same tested
+
+-- correction changes one place at most
+pub mended-same : (b : ℕ → ℕ) (p : ℕ) → (p ≡ guardedPlace (number b) → ⊥) → mended b p ≡ b p
+unfolding mended
+mended-same b p e = rw (ne-eqb p (guardedPlace (number b)) e)
+
+pub mended-there : (b : ℕ → ℕ) (p : ℕ) → p ≡ guardedPlace (number b) → mended b p ≡ inverted (b p)
+unfolding mended
+mended-there b p e = rw (eq-eqb p (guardedPlace (number b)) e)
+
 module _ (b : ℕ → ℕ) (bits : (p : ℕ) → b p < 2) where
   -- the correction number is below 16
   pub number-small : number b < 16
@@ -112,15 +149,6 @@ module _ (b : ℕ → ℕ) (bits : (p : ℕ) → b p < 2) where
       go : (t : Bool) → cond t (inverted (b p)) (b p) < 2
       go true = omega arith
       go false = bits p
-
-  -- and changes one place at most
-  pub mended-same : (p : ℕ) → (p ≡ guardedPlace (number b) → ⊥) → mended b p ≡ b p
-  unfolding mended
-  mended-same p e = rw (ne-eqb p (guardedPlace (number b)) e)
-
-  pub mended-there : (p : ℕ) → p ≡ guardedPlace (number b) → mended b p ≡ inverted (b p)
-  unfolding mended
-  mended-there p e = rw (eq-eqb p (guardedPlace (number b)) e)
 
   -- the indices in the frame, by field
   abbrev v : List ℕ
@@ -150,7 +178,7 @@ module _ (b : ℕ → ℕ) (bits : (p : ℕ) → b p < 2) where
   away f e = total-cong (share b f) (share (mended b) f) 144 (λ q a l. go q a l (ℕ-discrete (fieldAt q) f))
     where
       go : (q : ℕ) → 1 ≤ q → q ≤ 144 → Dec (fieldAt q ≡ f) → share b f q ≡ share (mended b) f q
-      go q a l (yes o) = ap (λ (x : ℕ). cond (eqb (fieldAt q) f) (x * 2 ^ bitIn q) 0) (sym (mended-same q (e q a l o)))
+      go q a l (yes o) = ap (λ (x : ℕ). cond (eqb (fieldAt q) f) (x * 2 ^ bitIn q) 0) (sym (mended-same b q (e q a l o)))
       go q a l (no o) = rw (ne-eqb (fieldAt q) f o)
 
   none-at-zero : number b ≡ 0 → (q : ℕ) → 1 ≤ q → q ≡ guardedPlace (number b) → ⊥
@@ -177,11 +205,11 @@ module _ (b : ℕ → ℕ) (bits : (p : ℕ) → b p < 2) where
       where
         go : Dec (i ≡ K) → (b (placeOf F i) + bit (2 ^ K) i) % 2 ≡ mended b (placeOf F i)
         go (yes e) =
-            rw (e, bit-pow K) (sym (mended-there (placeOf F K) (sym (guarded-place (number b) a h))))
+            rw (e, bit-pow K) (sym (mended-there b (placeOf F K) (sym (guarded-place (number b) a h))))
         go (no e) =
             let z = bit-pow-other K i e in
             let s = bits (placeOf F i) in
-            let same : b (placeOf F i) ≡ mended b (placeOf F i) = sym (mended-same (placeOf F i) apart) in
+            let same : b (placeOf F i) ≡ mended b (placeOf F i) = sym (mended-same b (placeOf F i) apart) in
             omega (arith, z, s, same)
           where
             apart : placeOf F i ≡ guardedPlace (number b) → ⊥

@@ -5,6 +5,9 @@ use Prim.Native.Nat.{ℕ, zero, suc, _+_, _*_, _%_, _<_, _≤_}
 use native.Mathlib.Omega.{arith}
 use native.Mathlib.Decide.{ℕ-discrete}
 use native.Mathlib.Numerals.{add-one}
+use borrow.Author.Tests.{eq-eqb, ne-eqb}
+use mathlib.Core.Bool.{cond}
+use lib.Dec.{eqb}
 use Rattle.laws.specs.Total.{total}
 
 pub total-more : (f : ℕ → ℕ) (n : ℕ) → total f (n + 1) ≡ total f n + f (n + 1)
@@ -55,3 +58,42 @@ total-parity f g h (suc n) e =
     let a = total-parity f g h n (λ k p q. e k p (omega arith)) in
     let b = e (suc n) (omega arith) (omega arith) in
     omega (arith, a, b)
+
+-- nothing but 0
+pub total-none : (f : ℕ → ℕ) (n : ℕ) → ((k : ℕ) → 1 ≤ k → k ≤ n → f k ≡ 0) → total f n ≡ 0
+unfolding total
+total-none f zero h = refl
+total-none f (suc n) h =
+    let a = total-none f n (λ k p q. h k p (omega arith)) in
+    let b = h (suc n) (omega arith) (omega arith) in
+    omega (arith, a, b)
+
+-- nothing but 0 away from one place
+pub total-one : (f : ℕ → ℕ) (p n : ℕ) → 1 ≤ p → p ≤ n → ((k : ℕ) → 1 ≤ k → k ≤ n → (k ≡ p → ⊥) → f k ≡ 0) → total f n ≡ f p
+total-one f p n a b h =
+    let c = total-change (λ k. 0) f p n a b (λ k q r s. sym (h k q r s)) in
+    let z = total-none (λ k. 0) n (λ k q r. refl) in
+    omega (arith, c, z)
+
+-- and away from two
+pub total-two : (f : ℕ → ℕ) (p q n : ℕ) → 1 ≤ p → p ≤ n → 1 ≤ q → q ≤ n → (p ≡ q → ⊥)
+    → ((k : ℕ) → 1 ≤ k → k ≤ n → (k ≡ p → ⊥) → (k ≡ q → ⊥) → f k ≡ 0) → total f n ≡ f p + f q
+total-two f p q n a b c d apart h =
+    let one = total-one g p n a b (λ k r s t. away k r s t (ℕ-discrete k q)) in
+    let change = total-change g f q n c d (λ k r s t. rest k (ℕ-discrete k q) t) in
+    let here : g q ≡ 0 = at-q in
+    let there : g p ≡ f p = at-p in
+    omega (arith, one, change, here, there)
+  where
+    g : ℕ → ℕ
+    g k = cond (eqb k q) 0 (f k)
+    at-q : g q ≡ 0
+    at-q = rw (eq-eqb q q refl)
+    at-p : g p ≡ f p
+    at-p = rw (ne-eqb p q apart)
+    away : (k : ℕ) → 1 ≤ k → k ≤ n → (k ≡ p → ⊥) → Dec (k ≡ q) → g k ≡ 0
+    away k r s t (yes e) = rw (eq-eqb k q e)
+    away k r s t (no e) = rw (ne-eqb k q e) (h k r s t e)
+    rest : (k : ℕ) → Dec (k ≡ q) → (k ≡ q → ⊥) → g k ≡ f k
+    rest k (yes e) t = absurd (t e)
+    rest k (no e) t = rw (ne-eqb k q e)

@@ -13,14 +13,12 @@ use lib.Pow.{pow-pos}
 use lib.Seq.{getD-take, getD-drop}
 use borrow.Author.Tests.{ltb-true, ltb-false, lt-ltb, le-ltb}
 use Rattle.laws.specs.Table.{both, every}
-use Rattle.laws.specs.Lowest.{lowest}
 use Rattle.laws.proofs.Table.{at, both-left, both-right}
 use Rattle.laws.proofs.Tabulate.{length-tabulate, getD-tabulate}
 use Rattle.laws.proofs.Lowest.{lowest-at, lowest-none, lowest-zero, lowest-found}
 use Rattle.lsp.specs.Table.{bits, hzTable, column, hzOf, lsp, hzAt, hertzOf}
 use Rattle.lsp.specs.Order.{falls, markOf, InOrder}
 use Rattle.lsp.specs.Average.{averageOf, averageAt, averagesOf, subframe}
-use Rattle.lsp.proofs.Columns.{from-one}
 use Rattle.lsp.proofs.Weights.{eighths, eighths-at}
 
 -- ---- the order mark

@@ -3,12 +3,11 @@
 use mathlib.Core.Path.{_≡_, _∙_, sym, refl}
 use mathlib.Core.List.{List}
 use mathlib.Core.Logic.{_⊎_, inl, inr}
-use Prim.Native.Nat.{ℕ, _+_, _*_, _-_, _/_, _%_, _<_, _≤_}
+use Prim.Native.Nat.{ℕ, _+_, _*_, _/_, _%_, _<_, _≤_}
 use native.Mathlib.Omega.{arith}
 use native.Mathlib.Decide.{ℕ-discrete}
 use lib.ListN.{getD, length, set}
 use Rattle.laws.proofs.Placed.{Placed, placed-none, placed-more, placed-as, placed-all}
-use Rattle.lsp.specs.Table.{lsp}
 use Rattle.lsp.specs.Average.{averageOf, averageAt, averagesOf}
 use Rattle.lsp.proofs.Columns.{from-one}
 

@@ -1,0 +1,279 @@
+-- Laws about the bits of a frame, for whoever reasons about reading and writing: packing, what reading depends on, the parity of a
+-- written frame, and flips.
+-- Assumes nothing.
+use mathlib.Core.Path.{_≡_, _∙_, sym, refl, ap, subst}
+use mathlib.Core.Bool.{Bool, true, false, cond}
+use mathlib.Core.List.{List}
+use Prim.Native.Nat.{ℕ, zero, suc, _+_, _-_, _*_, _/_, _%_, _^_, _<_, _≤_}
+use native.Mathlib.Omega.{arith}
+use native.Mathlib.Decide.{ℕ-discrete}
+use borrow.Author.Tests.{eq-eqb, ne-eqb}
+use lib.Dec.{eqb}
+use lib.ListN.{length, getD}
+use lib.Seq.{ext-getD}
+use Rattle.laws.specs.Total.{total, bit, fromBits}
+use Rattle.laws.specs.Tabulate.{tabulate}
+use Rattle.laws.proofs.Total.{total-cong, total-parity, total-one, total-two}
+use Rattle.laws.proofs.Tabulate.{length-tabulate, getD-tabulate, tabulate-cong}
+use Rattle.laws.proofs.Bits.{fromBits-lt, fromBits-cong, fromBits-bit, bit-fromBits, bit-zero, same-bits}
+use Rattle.record.specs.Fields.{indexOf, widthOf}
+use Rattle.record.specs.declared.Record.{Record}
+use Rattle.frame.specs.Places.{fieldAt, bitIn, bitsIn, placeOf}
+use Rattle.frame.specs.Parity.{guardedPlace, check, numberOf, number, inverted, mended}
+use Rattle.frame.specs.Frame.{byteOf, shiftOf, bitAt, packed, share, valueOf, recordOf, sent, withParity, parityOf, frameOf}
+use Rattle.frame.proofs.Fields.{value-collected, field-small, bit-small, place-first, place-last, field-of-place, bit-of-place}
+use Rattle.frame.proofs.Gathered.{bitAt-small}
+use Rattle.frame.proofs.Packed.{sent-small}
+use Rattle.frame.proofs.Mended.{guardedField, guardedBit, guarded-first, guarded-last, field-of-guarded, bit-of-guarded, guarded-apart, mended-same, mended-there}
+
+-- the bits of packed bytes are those that were packed
+module _ (b : ℕ → ℕ) (bits : (p : ℕ) → b p < 2) where
+  pub bit-packed : (p : ℕ) → 1 ≤ p → p ≤ 144 → bitAt (packed b) p ≡ b p
+  unfolding bitAt packed
+  bit-packed p a h =
+      ap (λ (x : ℕ). bit x (shiftOf p)) (getD-tabulate (λ k. fromBits (λ i. b (8 * k + 8 - i)) 8) 0 18 (byteOf p) (omega arith))
+          ∙ bit-fromBits (λ i. b (8 * byteOf p + 8 - i)) 8 (shiftOf p) (λ k l. bits (8 * byteOf p + 8 - k)) (omega arith)
+          ∙ ap b place
+    where
+      place : 8 * byteOf p + 8 - shiftOf p ≡ p
+      place = omega arith
+
+  -- and they are bytes
+  pub packed-byte : (k : ℕ) → k < 18 → getD (packed b) k 0 < 256
+  unfolding packed
+  packed-byte k h =
+      rw (getD-tabulate (λ k. fromBits (λ i. b (8 * k + 8 - i)) 8) 0 18 k h) (fromBits-lt (λ i. b (8 * k + 8 - i)) 8 (λ i l. bits (8 * k + 8 - i)))
+
+pub length-packed : (b : ℕ → ℕ) → length (packed b) ≡ 18
+unfolding packed
+length-packed b = length-tabulate (λ k. fromBits (λ i. b (8 * k + 8 - i)) 8) 18
+
+-- bit i of byte k stands at place 8 k + 8 - i
+pub bit-of-byte : (s : List ℕ) (k i : ℕ) → i < 8 → bitAt s (8 * k + 8 - i) ≡ bit (getD s k 0) i
+unfolding bitAt
+bit-of-byte s k i h = rw (byte, shift)
+  where
+    byte : byteOf (8 * k + 8 - i) ≡ k
+    byte = omega arith
+    shift : shiftOf (8 * k + 8 - i) ≡ i
+    shift = omega arith
+
+-- eighteen bytes are packed from their bits
+pub packed-bits : (s : List ℕ) → length s ≡ 18 → ((k : ℕ) → k < 18 → getD s k 0 < 256) → packed (bitAt s) ≡ s
+unfolding packed
+packed-bits s long bytes = ext-getD 0 (tabulate f 18) s (length-tabulate f 18 ∙ sym long) here
+  where
+    f : ℕ → ℕ
+    f k = fromBits (λ i. bitAt s (8 * k + 8 - i)) 8
+    byte : (k : ℕ) → k < 18 → f k ≡ getD s k 0
+    byte k h = fromBits-cong (λ i. bitAt s (8 * k + 8 - i)) (bit (getD s k 0)) 8 (λ i l. bit-of-byte s k i l) ∙ fromBits-bit 8 (getD s k 0) (bytes k h)
+    here : (k : ℕ) → k < length (tabulate f 18) → getD (tabulate f 18) k 0 ≡ getD s k 0
+    here k h = let l : k < 18 = subst (λ (n : ℕ). k < n) (length-tabulate f 18) h in getD-tabulate f 0 18 k l ∙ byte k l
+
+-- reading looks at the places 1 to 144 alone
+module _ (b c : ℕ → ℕ) (same : (p : ℕ) → 1 ≤ p → p ≤ 144 → b p ≡ c p) where
+  pub number-cong : number b ≡ number c
+  unfolding number
+  number-cong =
+      fromBits-cong (check (λ n. b (guardedPlace n))) (check (λ n. c (guardedPlace n))) 4
+      (λ i l. ap (λ (k : ℕ). k % 2)
+          (total-cong (λ n. bit n i * b (guardedPlace n)) (λ n. bit n i * c (guardedPlace n)) 15
+              (λ n a h. ap (λ (x : ℕ). bit n i * x) (same (guardedPlace n) (guarded-first n a h) (guarded-last n a h)))))
+
+  pub value-cong : (f : ℕ) → valueOf b f ≡ valueOf c f
+  unfolding valueOf
+  value-cong f =
+      total-cong (share b f) (share c f) 144 (λ p a h. ap (λ (x : ℕ). cond (eqb (fieldAt p) f) (x * 2 ^ bitIn p) 0) (same p a h))
+
+  pub record-cong : recordOf b ≡ recordOf c
+  record-cong = λ i. record { lsp = parameters i; subframes = indices i; sp = value-cong 27 i; sy = value-cong 28 i }
+    where
+      parameters : tabulate (λ k. valueOf b (k + 1)) 10 ≡ tabulate (λ k. valueOf c (k + 1)) 10
+      parameters = tabulate-cong (λ k. valueOf b (k + 1)) (λ k. valueOf c (k + 1)) 10 (λ k h. value-cong (k + 1))
+      indices : tabulate (λ k. valueOf b (k + 11)) 16 ≡ tabulate (λ k. valueOf c (k + 11)) 16
+      indices = tabulate-cong (λ k. valueOf b (k + 11)) (λ k. valueOf c (k + 11)) 16 (λ k h. value-cong (k + 11))
+
+  pub mended-cong : (p : ℕ) → 1 ≤ p → p ≤ 144 → mended b p ≡ mended c p
+  unfolding mended
+  mended-cong p a h =
+      ap (λ (x : ℕ). cond (eqb p (guardedPlace (number b))) (inverted x) x) (same p a h)
+          ∙ ap (λ (n : ℕ). cond (eqb p (guardedPlace n)) (inverted (c p)) (c p)) number-cong
+
+-- an index that fits its field is read as it was sent
+pub value-sent : (v : ℕ → ℕ) (f : ℕ) → f < 29 → v f < 2 ^ bitsIn f → valueOf (sent v) f ≡ v f
+unfolding sent
+value-sent v f h fits =
+    value-collected (sent v) f h
+        ∙ fromBits-cong (λ i. sent v (placeOf f i)) (bit (v f)) (bitsIn f) (λ i l. rw (field-of-place f i h l, bit-of-place f i h l))
+        ∙ fromBits-bit (bitsIn f) (v f) fits
+
+-- no place has number 0
+pub nowhere : guardedPlace 0 ≡ 0
+unfolding guardedPlace
+nowhere = refl
+
+-- a clean frame is left as it is
+pub clean-same : (b : ℕ → ℕ) → number b ≡ 0 → (p : ℕ) → 1 ≤ p → mended b p ≡ b p
+clean-same b e p a = go (ℕ-discrete p (guardedPlace (number b)))
+  where
+    go : Dec (p ≡ guardedPlace (number b)) → mended b p ≡ b p
+    go (yes w) = absurd (let z = ap guardedPlace e ∙ nowhere in omega (arith, z))
+    go (no w) = mended-same b p w
+
+-- the guarded bits of a frame, by correction number
+abbrev pub guardedOf : (ℕ → ℕ) → ℕ → ℕ
+guardedOf b n = b (guardedPlace n)
+
+-- each bit of the correction number is the check of that parity bit
+pub bit-number : (b : ℕ → ℕ) (i : ℕ) → i < 4 → bit (number b) i ≡ check (guardedOf b) i
+unfolding number
+bit-number b i h = bit-fromBits (check (guardedOf b)) 4 i (λ k l. omega arith) h
+
+pub number-below : (b : ℕ → ℕ) → number b < 16
+unfolding number
+number-below b = fromBits-lt (check (guardedOf b)) 4 (λ i l. omega arith)
+
+-- a number of four bits is known by the checks
+pub number-is : (b : ℕ → ℕ) (n : ℕ) → n < 16 → ((i : ℕ) → i < 4 → check (guardedOf b) i ≡ bit n i) → number b ≡ n
+unfolding number
+number-is b n h e = fromBits-cong (check (guardedOf b)) (bit n) 4 e ∙ fromBits-bit 4 n h
+
+pub clean-check : (b : ℕ → ℕ) → number b ≡ 0 → (i : ℕ) → i < 4 → check (guardedOf b) i ≡ 0
+clean-check b e i h = sym (bit-number b i h) ∙ ap (λ (n : ℕ). bit n i) e ∙ bit-zero i
+
+-- two sets of bits laid over each other: 1 where exactly one has 1
+module _ (b c d : ℕ → ℕ) (over : (p : ℕ) → 1 ≤ p → p ≤ 144 → d p ≡ (b p + c p) % 2) where
+  one-parity : (x y z w : ℕ) → w < 2 → z ≡ (x + y) % 2 → (w * z) % 2 ≡ (w * x + w * y) % 2
+  one-parity x y z zero h e = omega arith
+  one-parity x y z (suc zero) h e = omega (arith, e)
+  one-parity x y z (suc (suc w)) h e = absurd (omega arith)
+
+  pub check-over : (i : ℕ) → check (guardedOf d) i ≡ (check (guardedOf b) i + check (guardedOf c) i) % 2
+  check-over i =
+      let e = total-parity (λ n. bit n i * b (guardedPlace n)) (λ n. bit n i * c (guardedPlace n)) (λ n. bit n i * d (guardedPlace n)) 15
+              (λ n a h. one-parity (b (guardedPlace n)) (c (guardedPlace n)) (d (guardedPlace n)) (bit n i) (omega arith)
+                  (over (guardedPlace n) (guarded-first n a h) (guarded-last n a h))) in
+      omega (arith, e)
+
+  -- over a clean frame the number is that of the other alone
+  pub number-over : number b ≡ 0 → number d ≡ number c
+  number-over e =
+      number-is d (number c) (number-below c)
+      (λ i h. let o = check-over i in
+          let z = clean-check b e i h in
+          let s = bit-number c i h in
+          omega (arith, o, z, s))
+
+  -- and so is what correction makes of each bit
+  pub mended-over : number b ≡ 0 → (p : ℕ) → 1 ≤ p → p ≤ 144 → mended d p ≡ (b p + mended c p) % 2
+  mended-over e p a h = go (ℕ-discrete p (guardedPlace (number c)))
+    where
+      place : guardedPlace (number d) ≡ guardedPlace (number c)
+      place = ap guardedPlace (number-over e)
+      go : Dec (p ≡ guardedPlace (number c)) → mended d p ≡ (b p + mended c p) % 2
+      go (yes w) =
+          let o = over p a h in
+          let x : mended d p ≡ (d p + 1) % 2 = mended-there d p (w ∙ sym place) in
+          let y : mended c p ≡ (c p + 1) % 2 = mended-there c p w in
+          omega (arith, o, x, y)
+      go (no w) =
+          let o = over p a h in
+          let x = mended-same d p (λ v. w (v ∙ place)) in
+          let y = mended-same c p w in
+          omega (arith, o, x, y)
+
+-- the parity of a written frame
+module _ (r : Record) where
+  abbrev h : ℕ
+  h = parityOf r
+
+  abbrev unmarked : ℕ → ℕ
+  unmarked = sent (withParity r 0)
+
+  -- the parity bits alone
+  abbrev parity-alone : ℕ → ℕ
+  parity-alone p = cond (eqb (fieldAt p) 0) (bit h (bitIn p)) 0
+
+  laid-over : (p : ℕ) → 1 ≤ p → p ≤ 144 → sent (withParity r h) p ≡ (unmarked p + parity-alone p) % 2
+  unfolding sent
+  laid-over p a l = go (ℕ-discrete (fieldAt p) 0)
+    where
+      go : Dec (fieldAt p ≡ 0) → sent (withParity r h) p ≡ (unmarked p + parity-alone p) % 2
+      go (yes e) = rw (eq-eqb (fieldAt p) 0 e) (let z = bit-zero (bitIn p) in omega (arith, z))
+      go (no e) = rw (ne-eqb (fieldAt p) 0 e) (omega arith)
+
+  -- of the guarded bits, those of the parity
+  at-guarded : (n : ℕ) → 1 ≤ n → n ≤ 15 → parity-alone (guardedPlace n) ≡ cond (eqb (guardedField n) 0) (bit h (guardedBit n)) 0
+  at-guarded n a l = rw (field-of-guarded n a l, bit-of-guarded n a l)
+
+  four : (i : ℕ) → i < 4 → total (λ n. bit n i * cond (eqb (guardedField n) 0) (bit h (guardedBit n)) 0) 15 % 2 ≡ bit h i
+  unfolding total
+  four zero l = omega arith
+  four (suc zero) l = omega arith
+  four (suc (suc zero)) l = omega arith
+  four (suc (suc (suc zero))) l = omega arith
+  four (suc (suc (suc (suc i)))) l = absurd (omega arith)
+
+  check-alone : (i : ℕ) → i < 4 → check (guardedOf parity-alone) i ≡ bit h i
+  check-alone i l =
+      ap (λ (k : ℕ). k % 2)
+      (total-cong (λ n. bit n i * parity-alone (guardedPlace n)) (λ n. bit n i * cond (eqb (guardedField n) 0) (bit h (guardedBit n)) 0) 15
+          (λ n a m. ap (λ (x : ℕ). bit n i * x) (at-guarded n a m)))
+          ∙ four i l
+
+  -- a written frame is clean
+  pub written-clean : number (sent (withParity r (parityOf r))) ≡ 0
+  unfolding parityOf
+  written-clean =
+      number-is (sent (withParity r h)) 0 (omega arith)
+      (λ i l. let o = check-over unmarked parity-alone (sent (withParity r h)) laid-over i in
+          let x = check-alone i l in
+          let y = bit-number unmarked i l in
+          let z = bit-zero i in
+          omega (arith, o, x, y, z))
+
+-- flips in the guarded places: none but one
+module _ (e : ℕ → ℕ) (bits : (p : ℕ) → e p < 2) (m : ℕ) (a : 1 ≤ m) (l : m ≤ 15)
+    (rest : (n : ℕ) → 1 ≤ n → n ≤ 15 → (n ≡ m → ⊥) → e (guardedPlace n) ≡ 0) where
+  check-one : (i : ℕ) → i < 4 → check (guardedOf e) i ≡ bit m i * e (guardedPlace m) % 2
+  check-one i h =
+      ap (λ (k : ℕ). k % 2)
+      (total-one (λ n. bit n i * e (guardedPlace n)) m 15 a l (λ n p q w. let z = rest n p q w in rw z (omega arith)))
+
+  pub number-one : e (guardedPlace m) ≡ 1 → number e ≡ m
+  number-one w = number-is e m (omega arith) (λ i h. let c = check-one i h in c ∙ rw w (omega arith))
+
+  pub number-none : e (guardedPlace m) ≡ 0 → number e ≡ 0
+  number-none w = number-is e 0 (omega arith) (λ i h. let c = check-one i h in let z = bit-zero i in c ∙ rw (w, z) (omega arith))
+
+  -- correction takes it away
+  pub mended-one : (n : ℕ) → 1 ≤ n → n ≤ 15 → mended e (guardedPlace n) ≡ 0
+  mended-one n p q = go (ℕ-discrete n m) (e (guardedPlace m)) refl (bits (guardedPlace m))
+    where
+      go : Dec (n ≡ m) → (x : ℕ) → e (guardedPlace m) ≡ x → x < 2 → mended e (guardedPlace n) ≡ 0
+      go (yes v) zero w u = clean-same e (number-none w) (guardedPlace n) (guarded-first n p q) ∙ ap (λ (k : ℕ). e (guardedPlace k)) v ∙ w
+      go (yes v) (suc zero) w u =
+          mended-there e (guardedPlace n) (ap guardedPlace (v ∙ sym (number-one w)))
+              ∙ ap inverted (ap (λ (k : ℕ). e (guardedPlace k)) v ∙ w)
+      go (no v) zero w u = clean-same e (number-none w) (guardedPlace n) (guarded-first n p q) ∙ rest n p q v
+      go (no v) (suc zero) w u = mended-same e (guardedPlace n) (λ s. v (guarded-apart n m p q a l (s ∙ ap guardedPlace (number-one w)))) ∙ rest n p q v
+      go d (suc (suc x)) w u = absurd (omega arith)
+
+-- and none but two
+module _ (e : ℕ → ℕ) (m n : ℕ) (a : 1 ≤ m) (l : m ≤ 15) (b : 1 ≤ n) (k : n ≤ 15) (apart : m ≡ n → ⊥)
+    (here : e (guardedPlace m) ≡ 1) (there : e (guardedPlace n) ≡ 1)
+    (rest : (q : ℕ) → 1 ≤ q → q ≤ 15 → (q ≡ m → ⊥) → (q ≡ n → ⊥) → e (guardedPlace q) ≡ 0) where
+  check-two : (i : ℕ) → check (guardedOf e) i ≡ (bit m i + bit n i) % 2
+  check-two i =
+      ap (λ (x : ℕ). x % 2)
+      (total-two (λ q. bit q i * e (guardedPlace q)) m n 15 a l b k apart (λ q r s t w. let z = rest q r s t w in rw z (omega arith)))
+          ∙ rw (here, there) (omega arith)
+
+  -- two are always reported
+  pub number-two : number e ≡ 0 → ⊥
+  number-two z =
+      apart
+      (same-bits 4 m n (omega arith) (omega arith)
+          (λ i h. let c = check-two i in
+              let w = clean-check e z i h in
+              omega (arith, c, w)))
