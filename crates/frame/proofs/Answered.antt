@@ -20,7 +20,7 @@ use Rattle.record.specs.declared.Record.{Record}
 use Rattle.frame.specs.Places.{fieldAt, bitIn}
 use Rattle.frame.specs.Parity.{guardedPlace, check, numberOf, number, mended}
 use Rattle.frame.specs.Frame.{bitAt, packed, valueOf, recordOf, sent, withParity, parityOf, frameOf}
-use Rattle.frame.specs.Answers.{recordMark, noRecord, readingOf, writtenOf, leftBy, frameLeft}
+use Rattle.frame.specs.Answers.{recordMark, noRecord, readIn, readingOf, writtenOf, leftBy, frameLeft}
 use Rattle.frame.specs.Steps.{mendedFields, recordBy, fieldsOf}
 use Rattle.frame.specs.declared.Reading.{Reading}
 use Rattle.frame.specs.declared.Verdict.the-variants as Verdict
@@ -30,6 +30,11 @@ use Rattle.frame.proofs.Fields.{field-small}
 use Rattle.frame.proofs.Gathered.{bitAt-small}
 use Rattle.frame.proofs.Number.{guardedBits}
 use Rattle.frame.proofs.Mended.{guardedField, guardedBit, guarded-field-small, field-of-guarded, bit-of-guarded, guarded-entry, number-of-fields, number-small, record-read}
+
+-- eighteen bytes are read
+pub read-eighteen : (s : List ℕ) → length s ≡ 18 → readingOf s ≡ readIn (bitAt s)
+unfolding readingOf
+read-eighteen s e = rw (eq-eqb (length s) 18 e)
 
 -- a reading of its parts
 abbrev reading : Record → ℕ → ℕ → Reading
@@ -83,6 +88,37 @@ module _ (r : Record) (n : ℕ) where
   pub accepted : n ≡ 18 → tooLarge r ≡ 0 → recordMark r ≡ 0 → r .sp ≡ 0 → Written.Frame ≡ writtenOf r n
   unfolding writtenOf
   accepted e z m w = rw (eq-eqb n 18 e, eq-eqb (tooLarge r) 0 z, eq-eqb (recordMark r) 0 m, eq-eqb (r .sp) 0 w)
+
+-- what acceptance says of a record
+pub record Accepted (r : Record) (n : ℕ) : Type 0 where
+  pub long : n ≡ 18
+  pub fits : tooLarge r ≡ 0
+  pub order : recordMark r ≡ 0
+  pub expansion : r .sp ≡ 0
+
+pub accepted-only : (r : Record) (n : ℕ) → writtenOf r n ≡ Written.Frame → Accepted r n
+accepted-only r n e = record { long = long; fits = fits; order = order; expansion = unset (ℕ-discrete (r .sp) 0) }
+  where
+    never : {A : Type 0} (a : Written) → a ≡ writtenOf r n → (Written.Frame ≡ a → ⊥) → A
+    never a w k = absurd (k (sym (w ∙ e)))
+    size : Dec (n ≡ 18) → n ≡ 18
+    size (yes w) = w
+    size (no w) = never Written.WrongLength (wrong-length r n w) (λ q. let z : _≡_ {A = ℕ} 0 1 = cc in omega arith)
+    long : n ≡ 18
+    long = size (ℕ-discrete n 18)
+    small : Dec (tooLarge r ≡ 0) → tooLarge r ≡ 0
+    small (yes w) = w
+    small (no w) = never (Written.TooLarge (tooLarge r)) (too-large r n long (tooLarge r) refl w) (λ q. let z : _≡_ {A = ℕ} 0 1 = cc in omega arith)
+    fits : tooLarge r ≡ 0
+    fits = small (ℕ-discrete (tooLarge r) 0)
+    rising : Dec (recordMark r ≡ 0) → recordMark r ≡ 0
+    rising (yes w) = w
+    rising (no w) = never (Written.Falling (recordMark r)) (falling r n long fits (recordMark r) refl w) (λ q. let z : _≡_ {A = ℕ} 0 1 = cc in omega arith)
+    order : recordMark r ≡ 0
+    order = rising (ℕ-discrete (recordMark r) 0)
+    unset : Dec (r .sp ≡ 0) → r .sp ≡ 0
+    unset (yes w) = w
+    unset (no w) = never Written.Expansion (expansion r n long fits order w) (λ q. let z : _≡_ {A = ℕ} 0 1 = cc in omega arith)
 
 -- what the buffer holds after them
 module _ (r : Record) (s : List ℕ) where

@@ -6,7 +6,8 @@ use mathlib.Core.Bool.{Bool, true, false, cond}
 use mathlib.Core.List.{List}
 use Prim.Native.Nat.{ℕ, zero, suc, _+_, _-_, _*_, _/_, _%_, _^_, _<_, _≤_}
 use native.Mathlib.Omega.{arith}
-use native.Mathlib.Decide.{ℕ-discrete}
+use native.Mathlib.Decide.{ℕ-discrete, decLe}
+use native.Mathlib.Numerals.{sub-one}
 use borrow.Author.Tests.{eq-eqb, ne-eqb}
 use lib.Dec.{eqb}
 use lib.ListN.{length, getD}
@@ -18,12 +19,11 @@ use Rattle.laws.proofs.Tabulate.{length-tabulate, getD-tabulate, tabulate-cong}
 use Rattle.laws.proofs.Bits.{fromBits-lt, fromBits-cong, fromBits-bit, bit-fromBits, bit-zero, same-bits}
 use Rattle.record.specs.Fields.{indexOf, widthOf}
 use Rattle.record.specs.declared.Record.{Record}
+use Rattle.record.proofs.Laws.{index-parameter, index-subframe}
 use Rattle.frame.specs.Places.{fieldAt, bitIn, bitsIn, placeOf}
 use Rattle.frame.specs.Parity.{guardedPlace, check, numberOf, number, inverted, mended}
 use Rattle.frame.specs.Frame.{byteOf, shiftOf, bitAt, packed, share, valueOf, recordOf, sent, withParity, parityOf, frameOf}
-use Rattle.frame.proofs.Fields.{value-collected, field-small, bit-small, place-first, place-last, field-of-place, bit-of-place}
-use Rattle.frame.proofs.Gathered.{bitAt-small}
-use Rattle.frame.proofs.Packed.{sent-small}
+use Rattle.frame.proofs.Fields.{value-collected, value-bit, field-small, bit-small, place-of-here, field-of-place, bit-of-place}
 use Rattle.frame.proofs.Mended.{guardedField, guardedBit, guarded-first, guarded-last, field-of-guarded, bit-of-guarded, guarded-apart, mended-same, mended-there}
 
 -- the bits of packed bytes are those that were packed
@@ -182,11 +182,8 @@ module _ (b c d : ℕ → ℕ) (over : (p : ℕ) → 1 ≤ p → p ≤ 144 → d
           let y = mended-same c p w in
           omega (arith, o, x, y)
 
--- the parity of a written frame
-module _ (r : Record) where
-  abbrev h : ℕ
-  h = parityOf r
-
+-- the checks of a record sent with parity bits h
+module _ (r : Record) (h : ℕ) where
   abbrev unmarked : ℕ → ℕ
   unmarked = sent (withParity r 0)
 
@@ -221,16 +218,73 @@ module _ (r : Record) where
           (λ n a m. ap (λ (x : ℕ). bit n i * x) (at-guarded n a m)))
           ∙ four i l
 
-  -- a written frame is clean
-  pub written-clean : number (sent (withParity r (parityOf r))) ≡ 0
+  -- a check compares the parity that the record has with the parity sent
+  pub check-sent : (i : ℕ) → i < 4 → check (guardedOf (sent (withParity r h))) i ≡ (bit (parityOf r) i + bit h i) % 2
   unfolding parityOf
-  written-clean =
-      number-is (sent (withParity r h)) 0 (omega arith)
-      (λ i l. let o = check-over unmarked parity-alone (sent (withParity r h)) laid-over i in
-          let x = check-alone i l in
-          let y = bit-number unmarked i l in
-          let z = bit-zero i in
-          omega (arith, o, x, y, z))
+  check-sent i l =
+      let o = check-over unmarked parity-alone (sent (withParity r h)) laid-over i in
+      let x = check-alone i l in
+      let y = bit-number unmarked i l in
+      omega (arith, o, x, y)
+
+pub parity-below : (r : Record) → parityOf r < 16
+unfolding parityOf
+parity-below r = number-below (sent (withParity r 0))
+
+-- a written frame is clean
+pub written-clean : (r : Record) → number (sent (withParity r (parityOf r))) ≡ 0
+written-clean r =
+    number-is (sent (withParity r (parityOf r))) 0 (omega arith)
+    (λ i l. let o = check-sent r (parityOf r) i l in
+        let z = bit-zero i in
+        omega (arith, o, z))
+
+-- what is read in the bits b: the index in each field of the record
+pub index-of-record : (b : ℕ → ℕ) (f : ℕ) → 1 ≤ f → f ≤ 28 → indexOf (recordOf b) f ≡ valueOf b f
+index-of-record b f a l = parameter (decLe f 10)
+  where
+    last : Dec (f ≡ 27) → 26 < f → indexOf (recordOf b) f ≡ valueOf b f
+    last (yes e) h = rw e
+    last (no e) h = let w : f ≡ 28 = omega arith in rw w
+    subframe : Dec (f ≤ 26) → 10 < f → indexOf (recordOf b) f ≡ valueOf b f
+    subframe (yes q) h =
+        let back : f - 11 + 11 ≡ f = omega arith in
+        ap (indexOf (recordOf b)) (sym back) ∙ index-subframe (recordOf b) (f - 11) (omega arith)
+            ∙ getD-tabulate (λ k. valueOf b (k + 11)) 0 16 (f - 11) (omega arith) ∙ ap (valueOf b) back
+    subframe (no q) h = last (ℕ-discrete f 27) (omega arith)
+    parameter : Dec (f ≤ 10) → indexOf (recordOf b) f ≡ valueOf b f
+    parameter (yes q) =
+        let back : f - 1 + 1 ≡ f = omega arith in
+        ap (indexOf (recordOf b)) (sym back) ∙ index-parameter (recordOf b) (f - 1) (omega arith)
+            ∙ getD-tabulate (λ k. valueOf b (k + 1)) 0 10 (f - 1) (omega arith) ∙ ap (valueOf b) back
+    parameter (no q) = subframe (decLe f 26) (omega arith)
+
+-- a field's width is the record's
+pub bits-width : (f : ℕ) → 1 ≤ f → bitsIn f ≡ widthOf f
+bits-width zero a = absurd (omega arith)
+bits-width (suc k) a = rw (sub-one (suc k))
+
+-- any bits are what is sent for the record in them and the parity in them
+pub as-sent : (b : ℕ → ℕ) → ((p : ℕ) → b p < 2) → (p : ℕ) → 1 ≤ p → p ≤ 144 → b p ≡ sent (withParity (recordOf b) (valueOf b 0)) p
+unfolding sent
+as-sent b bits p a l =
+    sym (ap (λ (x : ℕ). bit x (bitIn p)) (index (ℕ-discrete (fieldAt p) 0))
+        ∙ value-bit b (fieldAt p) (field-small p a l) bits (bitIn p) (bit-small p a l)
+        ∙ ap b (place-of-here p a l))
+  where
+    index : Dec (fieldAt p ≡ 0) → withParity (recordOf b) (valueOf b 0) (fieldAt p) ≡ valueOf b (fieldAt p)
+    index (yes e) = rw (eq-eqb (fieldAt p) 0 e) (ap (valueOf b) (sym e))
+    index (no e) =
+        rw (ne-eqb (fieldAt p) 0 e) (index-of-record b (fieldAt p) (omega (arith, e)) (let h = field-small p a l in omega (arith, h)))
+
+-- the parity in the bits, from the record in them and the number
+pub parity-told : (b : ℕ → ℕ) → ((p : ℕ) → b p < 2) → (i : ℕ) → i < 4
+    → check (guardedOf b) i ≡ (bit (parityOf (recordOf b)) i + bit (valueOf b 0) i) % 2
+parity-told b bits i l =
+    ap (λ (k : ℕ). k % 2)
+    (total-cong (λ n. bit n i * b (guardedPlace n)) (λ n. bit n i * sent (withParity (recordOf b) (valueOf b 0)) (guardedPlace n)) 15
+        (λ n a m. ap (λ (x : ℕ). bit n i * x) (as-sent b bits (guardedPlace n) (guarded-first n a m) (guarded-last n a m))))
+        ∙ check-sent (recordOf b) (valueOf b 0) i l
 
 -- flips in the guarded places: none but one
 module _ (e : ℕ → ℕ) (bits : (p : ℕ) → e p < 2) (m : ℕ) (a : 1 ≤ m) (l : m ≤ 15)

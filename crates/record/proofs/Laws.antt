@@ -1,9 +1,14 @@
 -- What `tooLarge` says of a record: 0 exactly when every index fits its field; else a field whose index does not, and every lower one does.
 -- Assumes nothing.
-use mathlib.Core.Path.{_≡_, _∙_, sym}
+use mathlib.Core.Path.{_≡_, _∙_, sym, ap, subst}
 use mathlib.Core.Bool.{true, false}
-use Prim.Native.Nat.{ℕ, _^_, _<_, _≤_}
-use borrow.Author.Tests.{leb-true, leb-false, lt-leb}
+use Prim.Native.Nat.{ℕ, _+_, _-_, _^_, _<_, _≤_}
+use native.Mathlib.Omega.{arith}
+use lib.ListN.{length, getD}
+use lib.Seq.{ext-getD}
+use Rattle.laws.specs.Tabulate.{tabulate}
+use Rattle.laws.proofs.Tabulate.{length-tabulate, getD-tabulate}
+use borrow.Author.Tests.{leb-true, leb-false, le-leb, lt-leb}
 use Rattle.laws.proofs.Lowest.{lowest-zero, lowest-found, lowest-none}
 use Rattle.record.specs.Fields.{over, tooLarge, indexOf, widthOf}
 use Rattle.record.specs.declared.Record.{Record}
@@ -27,3 +32,34 @@ module _ (r : Record) where
   lowest-too-large j e a =
       let f = lowest-found (over r) 28 j e a in
       (f .0, leb-true (2 ^ widthOf j) (indexOf r j) (f .1), λ i b c. leb-false (2 ^ widthOf i) (indexOf r i) (f .2 i b c))
+
+  -- what stands in a field, by the list that holds it
+  pub index-parameter : (k : ℕ) → k < 10 → indexOf r (k + 1) ≡ getD (r .lsp) k 0
+  index-parameter k h = rw (le-leb (k + 1) 10 (omega arith)) (ap (λ (n : ℕ). getD (r .lsp) n 0) place)
+    where
+      place : k + 1 - 1 ≡ k
+      place = omega arith
+
+  pub index-subframe : (k : ℕ) → k < 16 → indexOf r (k + 11) ≡ getD (r .subframes) k 0
+  index-subframe k h =
+      rw (lt-leb (k + 11) 10 (omega arith), le-leb (k + 11) 26 (omega arith)) (ap (λ (n : ℕ). getD (r .subframes) n 0) place)
+    where
+      place : k + 11 - 11 ≡ k
+      place = omega arith
+
+  -- a record is known by what stands in its fields
+  pub record-is : (v : ℕ → ℕ) → length (r .lsp) ≡ 10 → length (r .subframes) ≡ 16 → ((f : ℕ) → 1 ≤ f → f ≤ 28 → v f ≡ indexOf r f)
+      → record { lsp = tabulate (λ k. v (k + 1)) 10; subframes = tabulate (λ k. v (k + 11)) 16; sp = v 27; sy = v 28 } ≡ r
+  record-is v ten sixteen same =
+      λ i. record { lsp = parameters i; subframes = indices i; sp = same 27 (omega arith) (omega arith) i; sy = same 28 (omega arith) (omega arith) i }
+    where
+      parameters : tabulate (λ k. v (k + 1)) 10 ≡ r .lsp
+      parameters =
+          ext-getD 0 (tabulate (λ k. v (k + 1)) 10) (r .lsp) (length-tabulate (λ k. v (k + 1)) 10 ∙ sym ten)
+          (λ k h. let l : k < 10 = subst (λ (n : ℕ). k < n) (length-tabulate (λ k. v (k + 1)) 10) h in
+              getD-tabulate (λ k. v (k + 1)) 0 10 k l ∙ same (k + 1) (omega arith) (omega arith) ∙ index-parameter k l)
+      indices : tabulate (λ k. v (k + 11)) 16 ≡ r .subframes
+      indices =
+          ext-getD 0 (tabulate (λ k. v (k + 11)) 16) (r .subframes) (length-tabulate (λ k. v (k + 11)) 16 ∙ sym sixteen)
+          (λ k h. let l : k < 16 = subst (λ (n : ℕ). k < n) (length-tabulate (λ k. v (k + 11)) 16) h in
+              getD-tabulate (λ k. v (k + 11)) 0 16 k l ∙ same (k + 11) (omega arith) (omega arith) ∙ index-subframe k l)
