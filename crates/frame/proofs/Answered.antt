@@ -27,6 +27,7 @@ use Rattle.frame.specs.declared.Verdict.the-variants as Verdict
 use Rattle.frame.specs.declared.Written.{Written}
 use Rattle.frame.specs.declared.Written.the-variants as Written
 use Rattle.frame.proofs.Fields.{field-small}
+use Rattle.frame.proofs.Laws.{packed-cong-bits}
 use Rattle.frame.proofs.Gathered.{bitAt-small}
 use Rattle.frame.proofs.Number.{guardedBits}
 use Rattle.frame.proofs.Mended.{guardedField, guardedBit, guarded-field-small, field-of-guarded, bit-of-guarded, guarded-entry, number-of-fields, number-small, record-read}
@@ -128,11 +129,9 @@ module _ (r : Record) (s : List ℕ) where
 
 -- two ways to say the indices send the same frame
 pub packed-cong : (u v : ℕ → ℕ) → ((f : ℕ) → f < 29 → u f ≡ v f) → packed (sent u) ≡ packed (sent v)
-unfolding packed sent
+unfolding sent
 packed-cong u v same =
-    tabulate-cong (λ k. fromBits (λ i. sent u (8 * k + 8 - i)) 8) (λ k. fromBits (λ i. sent v (8 * k + 8 - i)) 8) 18
-    (λ k h. fromBits-cong (λ i. sent u (8 * k + 8 - i)) (λ i. sent v (8 * k + 8 - i)) 8
-    (λ i l. ap (λ (x : ℕ). bit x (bitIn (8 * k + 8 - i))) (same (fieldAt (8 * k + 8 - i)) (field-small (8 * k + 8 - i) (omega arith) (omega arith)))))
+    packed-cong-bits (sent u) (sent v) (λ p a l. ap (λ (x : ℕ). bit x (bitIn p)) (same (fieldAt p) (field-small p a l)))
 
 fields-long : (r : Record) → length (fieldsOf r) ≡ 29
 unfolding fieldsOf

@@ -331,3 +331,10 @@ module _ (e : ℕ → ℕ) (m n : ℕ) (a : 1 ≤ m) (l : m ≤ 15) (b : 1 ≤ n
           (λ i h. let c = check-two i in
               let w = clean-check e z i h in
               omega (arith, c, w)))
+
+-- bits that agree are packed into the same bytes
+pub packed-cong-bits : (b c : ℕ → ℕ) → ((p : ℕ) → 1 ≤ p → p ≤ 144 → b p ≡ c p) → packed b ≡ packed c
+unfolding packed
+packed-cong-bits b c same =
+    tabulate-cong (λ k. fromBits (λ i. b (8 * k + 8 - i)) 8) (λ k. fromBits (λ i. c (8 * k + 8 - i)) 8) 18
+    (λ k h. fromBits-cong (λ i. b (8 * k + 8 - i)) (λ i. c (8 * k + 8 - i)) 8 (λ i l. same (8 * k + 8 - i) (omega arith) (omega arith)))
