@@ -1,7 +1,7 @@
 -- The promises about frames, shown.
 -- Assumes nothing.
 use mathlib.Core.Path.{_≡_, _∙_, sym, refl, ap, subst}
-use mathlib.Core.Bool.{cond}
+use mathlib.Core.Bool.{Bool, true, false, cond}
 use mathlib.Core.List.{List}
 use Prim.Native.Nat.{ℕ, zero, suc, _+_, _-_, _*_, _/_, _%_, _^_, _<_, _≤_}
 use native.Mathlib.Omega.{arith}
@@ -23,10 +23,10 @@ use Rattle.frame.specs.Answers.{recordMark, readIn, readingOf, writtenOf, frame
 use Rattle.frame.specs.declared.Reading.{Reading}
 use Rattle.frame.specs.declared.Verdict.the-variants as Verdict
 use Rattle.frame.specs.declared.Written.the-variants as Written
-use Rattle.frame.proofs.Fields.{value-small, value-bit, field-small, bit-small, place-of-here, place-first, place-last}
+use Rattle.frame.proofs.Fields.{value-small, value-bit, field-small, bit-small, place-of-here, place-first, place-last, field-of-place}
 use Rattle.frame.proofs.Gathered.{bitAt-small}
 use Rattle.frame.proofs.Packed.{sent-small}
-use Rattle.frame.proofs.Mended.{guarded-field-small, guarded-bit-small, guarded-place, guarded-first, guarded-last, mended-bits, mended-same, mended-there}
+use Rattle.frame.proofs.Mended.{guarded-field-small, guarded-bit-small, guarded-place, guarded-first, guarded-last, guarded-apart, mended-bits, mended-same, mended-there}
 use Rattle.frame.proofs.Answered.{accepted, Accepted, accepted-only, left, read-eighteen}
 use Rattle.frame.proofs.Laws.{bit-packed, packed-byte, length-packed, packed-bits, packed-cong-bits, number-cong, value-cong, record-cong, mended-cong, value-sent, clean-same, guardedOf, bit-number, number-is, clean-check, number-over, mended-over, parity-below, written-clean, index-of-record, bits-width, as-sent, parity-told, number-one, number-none, mended-one, number-two, nowhere}
 use Rattle.promises.specs.Frames.{Shaped, Eighteen, ReadsBack, WritesBack, Clean, SameBits, Made, flipped, readBit, DamageAlone, Flipped, Unflipped, OneMended, TwoReported, EveryFrameRead, OneFrame, Comes, SixteenFrames}
@@ -166,3 +166,230 @@ same-bits-back s t full long = (clean, back)
             (c .expansion)
         whole : frameOf (readingOf s .indices) ≡ s
         whole = ap frameOf (is ∙ same) ∙ back-again s full zero-number
+
+-- flips laid over a frame, bit by bit
+module _ (w e : List ℕ) where
+  flipped-long : length (flipped w e) ≡ 18
+  flipped-long = length-tabulate (λ k. bitXor (getD w k 0) (getD e k 0)) 18
+
+  flipped-bit : (p : ℕ) → 1 ≤ p → p ≤ 144 → bitAt (flipped w e) p ≡ (bitAt w p + bitAt e p) % 2
+  unfolding bitAt
+  flipped-bit p a l =
+      ap (λ (x : ℕ). bit x (shiftOf p)) (getD-tabulate (λ k. bitXor (getD w k 0) (getD e k 0)) 0 18 (byteOf p) (omega arith))
+          ∙ bit-xor (getD w (byteOf p) 0) (getD e (byteOf p) 0) (shiftOf p)
+
+-- a frame that the writer made
+module _ (w : List ℕ) (made : Made w) where
+  made-long : length w ≡ 18
+  made-long = ap length (sym (made .frame)) ∙ frame-long (made .written)
+
+  made-clean : number (bitAt w) ≡ 0
+  made-clean = ap (λ (l : List ℕ). number (bitAt l)) (sym (made .frame)) ∙ frame-clean (made .written)
+
+  module _ (e : List ℕ) (full : Eighteen e) where
+    -- the repair is that of the flips alone
+    flips-number : readingOf (flipped w e) .number ≡ readingOf e .number
+    flips-number =
+        read-number (flipped w e) (flipped-long w e)
+            ∙ number-over (bitAt w) (bitAt e) (bitAt (flipped w e)) (flipped-bit w e) made-clean
+            ∙ sym (read-number e (full .long))
+
+    flips-bit : (f i : ℕ) → 1 ≤ f → f ≤ 28 → i < widthOf f → readBit (flipped w e) f i ≡ (readBit w f i + readBit e f i) % 2
+    flips-bit f i a l h =
+        read-bit (flipped w e) (flipped-long w e) f i a l h
+            ∙ mended-over (bitAt w) (bitAt e) (bitAt (flipped w e)) (flipped-bit w e) made-clean (placeOf f i) first last
+            ∙ ap (λ (x : ℕ). (x + mended (bitAt e) (placeOf f i)) % 2)
+                (sym (clean-same (bitAt w) made-clean (placeOf f i) first) ∙ sym (read-bit w made-long f i a l h))
+            ∙ ap (λ (x : ℕ). (readBit w f i + x) % 2) (sym (read-bit e (full .long) f i a l h))
+      where
+        wide : i < bitsIn f
+        wide = rw (bits-width f a) h
+        first : 1 ≤ placeOf f i
+        first = place-first f i (omega arith) wide
+        last : placeOf f i ≤ 144
+        last = place-last f i (omega arith) wide
+
+pub damage-alone : DamageAlone
+unfolding DamageAlone
+damage-alone w e made full = (flips-bit w made e full, flips-number w made e full)
+
+pub one-mended : OneMended
+unfolding OneMended
+one-mended w e made full m a l rest n b k held =
+    flips-bit w made e full F K one (omega (arith, small)) wide
+        ∙ (let z : readBit e F K ≡ 0 = gone in
+           let s : readBit w F K < 2 = omega arith in
+           omega (arith, z, s))
+  where
+    F : ℕ
+    F = fieldOf (guardedName n)
+    K : ℕ
+    K = bitOf (guardedName n)
+    small : F < 29
+    small = guarded-field-small n b k
+    one : 1 ≤ F
+    one = omega (arith, held)
+    wide : K < widthOf F
+    wide = subst (λ (x : ℕ). K < x) (bits-width F one) (guarded-bit-small n b k)
+    gone : readBit e F K ≡ 0
+    gone =
+        read-bit e (full .long) F K one (omega (arith, small)) wide
+            ∙ ap (mended (bitAt e)) (sym (guarded-place n b k))
+            ∙ mended-one (bitAt e) (bitAt-small e) m a l rest n b k
+
+pub two-reported : TwoReported
+unfolding TwoReported
+two-reported w e made full m n a l b k apart here there rest z =
+    number-two (bitAt e) m n a l b k apart here there rest (sym (read-number e (full .long)) ∙ sym (flips-number w made e full) ∙ z)
+
+pub every-frame-read : EveryFrameRead
+unfolding EveryFrameRead
+every-frame-read s full = ap (λ (x : Reading). x .verdict) (read-eighteen s (full .long))
+
+-- two sets of bits with the same record and number after correction are the same bits
+module _ (b c : ℕ → ℕ) (bits : (p : ℕ) → b p < 2) (bits′ : (p : ℕ) → c p < 2)
+    (same-record : recordOf (mended b) ≡ recordOf (mended c)) (same-number : number b ≡ number c) where
+  -- a mended bit of a field is a bit of the record
+  mended-data : (p : ℕ) → 1 ≤ p → p ≤ 144 → (fieldAt p ≡ 0 → ⊥) → mended b p ≡ mended c p
+  mended-data p a l e = sym (told b bits) ∙ ap (λ (r : Record). bit (indexOf r (fieldAt p)) (bitIn p)) same-record ∙ told c bits′
+    where
+      one : 1 ≤ fieldAt p
+      one = omega (arith, e)
+      small : fieldAt p ≤ 28
+      small = let h = field-small p a l in omega (arith, h)
+      told : (d : ℕ → ℕ) (bits : (p : ℕ) → d p < 2) → bit (indexOf (recordOf (mended d)) (fieldAt p)) (bitIn p) ≡ mended d p
+      told d bits =
+          ap (λ (x : ℕ). bit x (bitIn p)) (index-of-record (mended d) (fieldAt p) one small)
+              ∙ value-bit (mended d) (fieldAt p) (field-small p a l) (mended-bits d bits) (bitIn p) (bit-small p a l)
+              ∙ ap (mended d) (place-of-here p a l)
+
+  data-same : (p : ℕ) → 1 ≤ p → p ≤ 144 → (fieldAt p ≡ 0 → ⊥) → b p ≡ c p
+  data-same p a l e = go (ℕ-discrete p (guardedPlace (number b)))
+    where
+      go : Dec (p ≡ guardedPlace (number b)) → b p ≡ c p
+      go (yes w) =
+          let m = mended-data p a l e in
+          let x : mended b p ≡ (b p + 1) % 2 = mended-there b p w in
+          let y : mended c p ≡ (c p + 1) % 2 = mended-there c p (w ∙ ap guardedPlace same-number) in
+          let u = bits p in
+          let v = bits′ p in
+          omega (arith, m, x, y, u, v)
+      go (no w) = sym (mended-same b p w) ∙ mended-data p a l e ∙ mended-same c p (λ v. w (v ∙ ap guardedPlace (sym same-number)))
+
+  -- so the records before correction are the same, and with the number so is the parity
+  value-same : (f : ℕ) → 1 ≤ f → f ≤ 28 → valueOf b f ≡ valueOf c f
+  value-same f a l =
+      same-bits (bitsIn f) (valueOf b f) (valueOf c f) (value-small b f (omega arith) bits) (value-small c f (omega arith) bits′)
+      (λ i h. value-bit b f (omega arith) bits i h ∙ data-same (placeOf f i) (place-first f i (omega arith) h) (place-last f i (omega arith) h) (apart i h)
+          ∙ sym (value-bit c f (omega arith) bits′ i h))
+    where
+      apart : (i : ℕ) → i < bitsIn f → fieldAt (placeOf f i) ≡ 0 → ⊥
+      apart i h z = let g = field-of-place f i (omega arith) h in omega (arith, g, z)
+
+  records-same : recordOf b ≡ recordOf c
+  records-same = record-is (recordOf c) (valueOf b) (length-tabulate (λ k. valueOf c (k + 1)) 10) (length-tabulate (λ k. valueOf c (k + 11)) 16)
+      (λ f a l. value-same f a l ∙ sym (index-of-record c f a l))
+
+  parity-same : valueOf b 0 ≡ valueOf c 0
+  parity-same =
+      same-bits 4 (valueOf b 0) (valueOf c 0) (value-small b 0 (omega arith) bits) (value-small c 0 (omega arith) bits′)
+      (λ i l. let x = parity-told b bits i l in
+          let y = parity-told c bits′ i l in
+          let u = bit-number b i l in
+          let v = bit-number c i l in
+          let n : bit (number b) i ≡ bit (number c) i = ap (λ (k : ℕ). bit k i) same-number in
+          let r : bit (parityOf (recordOf b)) i ≡ bit (parityOf (recordOf c)) i = ap (λ (k : Record). bit (parityOf k) i) records-same in
+          omega (arith, x, y, u, v, n, r))
+
+  all-same : (p : ℕ) → 1 ≤ p → p ≤ 144 → b p ≡ c p
+  all-same p a l =
+      as-sent b bits p a l
+          ∙ ap (λ (r : Record). sent (withParity r (valueOf b 0)) p) records-same
+          ∙ ap (λ (h : ℕ). sent (withParity (recordOf c) h) p) parity-same
+          ∙ sym (as-sent c bits′ p a l)
+
+pub one-frame : OneFrame
+unfolding OneFrame
+one-frame s t full full′ same-record same-number =
+    sym (packed-bits s (full .long) (full .bytes))
+        ∙ packed-cong-bits (bitAt s) (bitAt t)
+            (all-same (bitAt s) (bitAt t) (bitAt-small s) (bitAt-small t)
+                (sym (read-indices s (full .long)) ∙ same-record ∙ read-indices t (full′ .long))
+                (sym (read-number s (full .long)) ∙ same-number ∙ read-number t (full′ .long)))
+        ∙ packed-bits t (full′ .long) (full′ .bytes)
+
+-- a frame with the guarded place of one number inverted
+module _ (r : Record) (n : ℕ) (h : n < 16) where
+  alone : ℕ → ℕ
+  alone p = cond (eqb p (guardedPlace n)) 1 0
+
+  alone-small : (p : ℕ) → alone p < 2
+  unfolding alone
+  alone-small p = go (eqb p (guardedPlace n))
+    where
+      go : (t : Bool) → cond t 1 0 < 2
+      go true = omega arith
+      go false = omega arith
+
+  alone-there : (p : ℕ) → p ≡ guardedPlace n → alone p ≡ 1
+  unfolding alone
+  alone-there p e = rw (eq-eqb p (guardedPlace n) e)
+
+  alone-away : (p : ℕ) → (p ≡ guardedPlace n → ⊥) → alone p ≡ 0
+  unfolding alone
+  alone-away p e = rw (ne-eqb p (guardedPlace n) e)
+
+  alone-number : number alone ≡ n
+  alone-number = go (ℕ-discrete n 0)
+    where
+      none : n ≡ 0 → (m : ℕ) → 1 ≤ m → m ≤ 15 → alone (guardedPlace m) ≡ 0
+      none z m a l =
+          alone-away (guardedPlace m) (λ w. let f = guarded-first m a l in let g : guardedPlace n ≡ 0 = ap guardedPlace z ∙ nowhere in omega (arith, f, g, w))
+      go : Dec (n ≡ 0) → number alone ≡ n
+      go (yes z) = number-none alone alone-small 1 (omega arith) (omega arith) (λ m a l e. none z m a l) (none z 1 (omega arith) (omega arith)) ∙ sym z
+      go (no z) =
+          number-one alone alone-small n (omega (arith, z)) (omega arith)
+          (λ m a l e. alone-away (guardedPlace m) (λ w. e (guarded-apart m n a l (omega (arith, z)) (omega arith) w)))
+          (alone-there (guardedPlace n) refl)
+
+  alone-mended : (p : ℕ) → 1 ≤ p → mended alone p ≡ 0
+  alone-mended p a = go (ℕ-discrete p (guardedPlace n))
+    where
+      place : guardedPlace (number alone) ≡ guardedPlace n
+      place = ap guardedPlace alone-number
+      go : Dec (p ≡ guardedPlace n) → mended alone p ≡ 0
+      go (yes e) = mended-there alone p (e ∙ sym place) ∙ ap inverted (alone-there p e)
+      go (no e) = mended-same alone p (λ w. e (w ∙ place)) ∙ alone-away p e
+
+  marked : ℕ → ℕ
+  marked p = (bits-sent r p + alone p) % 2
+
+  marked-small : (p : ℕ) → marked p < 2
+  unfolding marked
+  marked-small p = omega arith
+
+  marked-over : (p : ℕ) → 1 ≤ p → p ≤ 144 → bitAt (packed marked) p ≡ (bits-sent r p + alone p) % 2
+  unfolding marked
+  marked-over p a l = bit-packed marked marked-small p a l
+
+  comes : Shaped r → tooLarge r ≡ 0 → Comes r n
+  comes shaped fits =
+      record
+      { from = packed marked
+      ; eighteen = record { long = length-packed marked; bytes = packed-byte marked marked-small }
+      ; reads =
+          read-indices (packed marked) (length-packed marked)
+              ∙ record-cong (mended (bitAt (packed marked))) (bits-sent r)
+              (λ p a l. mended-over (bits-sent r) alone (bitAt (packed marked)) marked-over (written-clean r) p a l
+                  ∙ (let z = alone-mended p a in
+                     let s = sent-small (withParity r (parityOf r)) p in
+                     omega (arith, z, s)))
+              ∙ record-sent r shaped fits
+      ; numbered =
+          read-number (packed marked) (length-packed marked)
+              ∙ number-over (bits-sent r) alone (bitAt (packed marked)) marked-over (written-clean r)
+              ∙ alone-number }
+
+pub sixteen-frames : SixteenFrames
+unfolding SixteenFrames
+sixteen-frames r shaped fits n h = comes r n h shaped (all-fit-none-too-large r fits)
