@@ -102,21 +102,28 @@ accepted-only r n e = record { long = long; fits = fits; order = order; expansio
   where
     never : {A : Type 0} (a : Written) → a ≡ writtenOf r n → (Written.Frame ≡ a → ⊥) → A
     never a w k = absurd (k (sym (w ∙ e)))
+
     size : Dec (n ≡ 18) → n ≡ 18
     size (yes w) = w
     size (no w) = never Written.WrongLength (wrong-length r n w) (λ q. let z : _≡_ {A = ℕ} 0 1 = cc in omega arith)
+
     long : n ≡ 18
     long = size (ℕ-discrete n 18)
+
     small : Dec (tooLarge r ≡ 0) → tooLarge r ≡ 0
     small (yes w) = w
     small (no w) = never (Written.TooLarge (tooLarge r)) (too-large r n long (tooLarge r) refl w) (λ q. let z : _≡_ {A = ℕ} 0 1 = cc in omega arith)
+
     fits : tooLarge r ≡ 0
     fits = small (ℕ-discrete (tooLarge r) 0)
+
     rising : Dec (recordMark r ≡ 0) → recordMark r ≡ 0
     rising (yes w) = w
     rising (no w) = never (Written.Falling (recordMark r)) (falling r n long fits (recordMark r) refl w) (λ q. let z : _≡_ {A = ℕ} 0 1 = cc in omega arith)
+
     order : recordMark r ≡ 0
     order = rising (ℕ-discrete (recordMark r) 0)
+
     unset : Dec (r .sp ≡ 0) → r .sp ≡ 0
     unset (yes w) = w
     unset (no w) = never Written.Expansion (expansion r n long fits order w) (λ q. let z : _≡_ {A = ℕ} 0 1 = cc in omega arith)

@@ -32,8 +32,8 @@ module _ (b : ℕ → ℕ) (bits : (p : ℕ) → b p < 2) where
   unfolding bitAt packed
   bit-packed p a h =
       ap (λ (x : ℕ). bit x (shiftOf p)) (getD-tabulate (λ k. fromBits (λ i. b (8 * k + 8 - i)) 8) 0 18 (byteOf p) (omega arith))
-          ∙ bit-fromBits (λ i. b (8 * byteOf p + 8 - i)) 8 (shiftOf p) (λ k l. bits (8 * byteOf p + 8 - k)) (omega arith)
-          ∙ ap b place
+      ∙ bit-fromBits (λ i. b (8 * byteOf p + 8 - i)) 8 (shiftOf p) (λ k l. bits (8 * byteOf p + 8 - k)) (omega arith)
+      ∙ ap b place
     where
       place : 8 * byteOf p + 8 - shiftOf p ≡ p
       place = omega arith
@@ -55,6 +55,7 @@ bit-of-byte s k i h = rw (byte, shift)
   where
     byte : byteOf (8 * k + 8 - i) ≡ k
     byte = omega arith
+
     shift : shiftOf (8 * k + 8 - i) ≡ i
     shift = omega arith
 
@@ -65,8 +66,10 @@ packed-bits s long bytes = ext-getD 0 (tabulate f 18) s (length-tabulate f 18 �
   where
     f : ℕ → ℕ
     f k = fromBits (λ i. bitAt s (8 * k + 8 - i)) 8
+
     byte : (k : ℕ) → k < 18 → f k ≡ getD s k 0
     byte k h = fromBits-cong (λ i. bitAt s (8 * k + 8 - i)) (bit (getD s k 0)) 8 (λ i l. bit-of-byte s k i l) ∙ fromBits-bit 8 (getD s k 0) (bytes k h)
+
     here : (k : ℕ) → k < length (tabulate f 18) → getD (tabulate f 18) k 0 ≡ getD s k 0
     here k h = let l : k < 18 = subst (λ (n : ℕ). k < n) (length-tabulate f 18) h in getD-tabulate f 0 18 k l ∙ byte k l
 
@@ -77,8 +80,8 @@ module _ (b c : ℕ → ℕ) (same : (p : ℕ) → 1 ≤ p → p ≤ 144 → b p
   number-cong =
       fromBits-cong (check (λ n. b (guardedPlace n))) (check (λ n. c (guardedPlace n))) 4
       (λ i l. ap (λ (k : ℕ). k % 2)
-          (total-cong (λ n. bit n i * b (guardedPlace n)) (λ n. bit n i * c (guardedPlace n)) 15
-              (λ n a h. ap (λ (x : ℕ). bit n i * x) (same (guardedPlace n) (guarded-first n a h) (guarded-last n a h)))))
+      (total-cong (λ n. bit n i * b (guardedPlace n)) (λ n. bit n i * c (guardedPlace n)) 15
+      (λ n a h. ap (λ (x : ℕ). bit n i * x) (same (guardedPlace n) (guarded-first n a h) (guarded-last n a h)))))
 
   pub value-cong : (f : ℕ) → valueOf b f ≡ valueOf c f
   unfolding valueOf
@@ -90,6 +93,7 @@ module _ (b c : ℕ → ℕ) (same : (p : ℕ) → 1 ≤ p → p ≤ 144 → b p
     where
       parameters : tabulate (λ k. valueOf b (k + 1)) 10 ≡ tabulate (λ k. valueOf c (k + 1)) 10
       parameters = tabulate-cong (λ k. valueOf b (k + 1)) (λ k. valueOf c (k + 1)) 10 (λ k h. value-cong (k + 1))
+
       indices : tabulate (λ k. valueOf b (k + 11)) 16 ≡ tabulate (λ k. valueOf c (k + 11)) 16
       indices = tabulate-cong (λ k. valueOf b (k + 11)) (λ k. valueOf c (k + 11)) 16 (λ k h. value-cong (k + 11))
 
@@ -97,15 +101,15 @@ module _ (b c : ℕ → ℕ) (same : (p : ℕ) → 1 ≤ p → p ≤ 144 → b p
   unfolding mended
   mended-cong p a h =
       ap (λ (x : ℕ). cond (eqb p (guardedPlace (number b))) (inverted x) x) (same p a h)
-          ∙ ap (λ (n : ℕ). cond (eqb p (guardedPlace n)) (inverted (c p)) (c p)) number-cong
+      ∙ ap (λ (n : ℕ). cond (eqb p (guardedPlace n)) (inverted (c p)) (c p)) number-cong
 
 -- an index that fits its field is read as it was sent
 pub value-sent : (v : ℕ → ℕ) (f : ℕ) → f < 29 → v f < 2 ^ bitsIn f → valueOf (sent v) f ≡ v f
 unfolding sent
 value-sent v f h fits =
     value-collected (sent v) f h
-        ∙ fromBits-cong (λ i. sent v (placeOf f i)) (bit (v f)) (bitsIn f) (λ i l. rw (field-of-place f i h l, bit-of-place f i h l))
-        ∙ fromBits-bit (bitsIn f) (v f) fits
+    ∙ fromBits-cong (λ i. sent v (placeOf f i)) (bit (v f)) (bitsIn f) (λ i l. rw (field-of-place f i h l, bit-of-place f i h l))
+    ∙ fromBits-bit (bitsIn f) (v f) fits
 
 -- no place has number 0
 pub nowhere : guardedPlace 0 ≡ 0
@@ -151,8 +155,8 @@ module _ (b c d : ℕ → ℕ) (over : (p : ℕ) → 1 ≤ p → p ≤ 144 → d
   pub check-over : (i : ℕ) → check (guardedOf d) i ≡ (check (guardedOf b) i + check (guardedOf c) i) % 2
   check-over i =
       let e = total-parity (λ n. bit n i * b (guardedPlace n)) (λ n. bit n i * c (guardedPlace n)) (λ n. bit n i * d (guardedPlace n)) 15
-              (λ n a h. one-parity (b (guardedPlace n)) (c (guardedPlace n)) (d (guardedPlace n)) (bit n i) (omega arith)
-                  (over (guardedPlace n) (guarded-first n a h) (guarded-last n a h))) in
+      (λ n a h. one-parity (b (guardedPlace n)) (c (guardedPlace n)) (d (guardedPlace n)) (bit n i) (omega arith)
+      (over (guardedPlace n) (guarded-first n a h) (guarded-last n a h))) in
       omega (arith, e)
 
   -- over a clean frame the number is that of the other alone
@@ -160,9 +164,9 @@ module _ (b c d : ℕ → ℕ) (over : (p : ℕ) → 1 ≤ p → p ≤ 144 → d
   number-over e =
       number-is d (number c) (number-below c)
       (λ i h. let o = check-over i in
-          let z = clean-check b e i h in
-          let s = bit-number c i h in
-          omega (arith, o, z, s))
+      let z = clean-check b e i h in
+      let s = bit-number c i h in
+      omega (arith, o, z, s))
 
   -- and so is what correction makes of each bit
   pub mended-over : number b ≡ 0 → (p : ℕ) → 1 ≤ p → p ≤ 144 → mended d p ≡ (b p + mended c p) % 2
@@ -170,6 +174,7 @@ module _ (b c d : ℕ → ℕ) (over : (p : ℕ) → 1 ≤ p → p ≤ 144 → d
     where
       place : guardedPlace (number d) ≡ guardedPlace (number c)
       place = ap guardedPlace (number-over e)
+
       go : Dec (p ≡ guardedPlace (number c)) → mended d p ≡ (b p + mended c p) % 2
       go (yes w) =
           let o = over p a h in
@@ -215,8 +220,8 @@ module _ (r : Record) (h : ℕ) where
   check-alone i l =
       ap (λ (k : ℕ). k % 2)
       (total-cong (λ n. bit n i * parity-alone (guardedPlace n)) (λ n. bit n i * cond (eqb (guardedField n) 0) (bit h (guardedBit n)) 0) 15
-          (λ n a m. ap (λ (x : ℕ). bit n i * x) (at-guarded n a m)))
-          ∙ four i l
+      (λ n a m. ap (λ (x : ℕ). bit n i * x) (at-guarded n a m)))
+      ∙ four i l
 
   -- a check compares the parity that the record has with the parity sent
   pub check-sent : (i : ℕ) → i < 4 → check (guardedOf (sent (withParity r h))) i ≡ (bit (parityOf r) i + bit h i) % 2
@@ -236,8 +241,8 @@ pub written-clean : (r : Record) → number (sent (withParity r (parityOf r))) �
 written-clean r =
     number-is (sent (withParity r (parityOf r))) 0 (omega arith)
     (λ i l. let o = check-sent r (parityOf r) i l in
-        let z = bit-zero i in
-        omega (arith, o, z))
+    let z = bit-zero i in
+    omega (arith, o, z))
 
 -- what is read in the bits b: the index in each field of the record
 pub index-of-record : (b : ℕ → ℕ) (f : ℕ) → 1 ≤ f → f ≤ 28 → indexOf (recordOf b) f ≡ valueOf b f
@@ -246,17 +251,19 @@ index-of-record b f a l = parameter (decLe f 10)
     last : Dec (f ≡ 27) → 26 < f → indexOf (recordOf b) f ≡ valueOf b f
     last (yes e) h = rw e
     last (no e) h = let w : f ≡ 28 = omega arith in rw w
+
     subframe : Dec (f ≤ 26) → 10 < f → indexOf (recordOf b) f ≡ valueOf b f
     subframe (yes q) h =
         let back : f - 11 + 11 ≡ f = omega arith in
         ap (indexOf (recordOf b)) (sym back) ∙ index-subframe (recordOf b) (f - 11) (omega arith)
-            ∙ getD-tabulate (λ k. valueOf b (k + 11)) 0 16 (f - 11) (omega arith) ∙ ap (valueOf b) back
+        ∙ getD-tabulate (λ k. valueOf b (k + 11)) 0 16 (f - 11) (omega arith) ∙ ap (valueOf b) back
     subframe (no q) h = last (ℕ-discrete f 27) (omega arith)
+
     parameter : Dec (f ≤ 10) → indexOf (recordOf b) f ≡ valueOf b f
     parameter (yes q) =
         let back : f - 1 + 1 ≡ f = omega arith in
         ap (indexOf (recordOf b)) (sym back) ∙ index-parameter (recordOf b) (f - 1) (omega arith)
-            ∙ getD-tabulate (λ k. valueOf b (k + 1)) 0 10 (f - 1) (omega arith) ∙ ap (valueOf b) back
+        ∙ getD-tabulate (λ k. valueOf b (k + 1)) 0 10 (f - 1) (omega arith) ∙ ap (valueOf b) back
     parameter (no q) = subframe (decLe f 26) (omega arith)
 
 -- a field's width is the record's
@@ -269,8 +276,8 @@ pub as-sent : (b : ℕ → ℕ) → ((p : ℕ) → b p < 2) → (p : ℕ) → 1 
 unfolding sent
 as-sent b bits p a l =
     sym (ap (λ (x : ℕ). bit x (bitIn p)) (index (ℕ-discrete (fieldAt p) 0))
-        ∙ value-bit b (fieldAt p) (field-small p a l) bits (bitIn p) (bit-small p a l)
-        ∙ ap b (place-of-here p a l))
+    ∙ value-bit b (fieldAt p) (field-small p a l) bits (bitIn p) (bit-small p a l)
+    ∙ ap b (place-of-here p a l))
   where
     index : Dec (fieldAt p ≡ 0) → withParity (recordOf b) (valueOf b 0) (fieldAt p) ≡ valueOf b (fieldAt p)
     index (yes e) = rw (eq-eqb (fieldAt p) 0 e) (ap (valueOf b) (sym e))
@@ -283,8 +290,8 @@ pub parity-told : (b : ℕ → ℕ) → ((p : ℕ) → b p < 2) → (i : ℕ) �
 parity-told b bits i l =
     ap (λ (k : ℕ). k % 2)
     (total-cong (λ n. bit n i * b (guardedPlace n)) (λ n. bit n i * sent (withParity (recordOf b) (valueOf b 0)) (guardedPlace n)) 15
-        (λ n a m. ap (λ (x : ℕ). bit n i * x) (as-sent b bits (guardedPlace n) (guarded-first n a m) (guarded-last n a m))))
-        ∙ check-sent (recordOf b) (valueOf b 0) i l
+    (λ n a m. ap (λ (x : ℕ). bit n i * x) (as-sent b bits (guardedPlace n) (guarded-first n a m) (guarded-last n a m))))
+    ∙ check-sent (recordOf b) (valueOf b 0) i l
 
 -- flips in the guarded places: none but one
 module _ (e : ℕ → ℕ) (bits : (p : ℕ) → e p < 2) (m : ℕ) (a : 1 ≤ m) (l : m ≤ 15)
@@ -308,7 +315,7 @@ module _ (e : ℕ → ℕ) (bits : (p : ℕ) → e p < 2) (m : ℕ) (a : 1 ≤ m
       go (yes v) zero w u = clean-same e (number-none w) (guardedPlace n) (guarded-first n p q) ∙ ap (λ (k : ℕ). e (guardedPlace k)) v ∙ w
       go (yes v) (suc zero) w u =
           mended-there e (guardedPlace n) (ap guardedPlace (v ∙ sym (number-one w)))
-              ∙ ap inverted (ap (λ (k : ℕ). e (guardedPlace k)) v ∙ w)
+          ∙ ap inverted (ap (λ (k : ℕ). e (guardedPlace k)) v ∙ w)
       go (no v) zero w u = clean-same e (number-none w) (guardedPlace n) (guarded-first n p q) ∙ rest n p q v
       go (no v) (suc zero) w u = mended-same e (guardedPlace n) (λ s. v (guarded-apart n m p q a l (s ∙ ap guardedPlace (number-one w)))) ∙ rest n p q v
       go d (suc (suc x)) w u = absurd (omega arith)
@@ -321,16 +328,16 @@ module _ (e : ℕ → ℕ) (m n : ℕ) (a : 1 ≤ m) (l : m ≤ 15) (b : 1 ≤ n
   check-two i =
       ap (λ (x : ℕ). x % 2)
       (total-two (λ q. bit q i * e (guardedPlace q)) m n 15 a l b k apart (λ q r s t w. let z = rest q r s t w in rw z (omega arith)))
-          ∙ rw (here, there) (omega arith)
+      ∙ rw (here, there) (omega arith)
 
   -- two are always reported
   pub number-two : number e ≡ 0 → ⊥
   number-two z =
       apart
       (same-bits 4 m n (omega arith) (omega arith)
-          (λ i h. let c = check-two i in
-              let w = clean-check e z i h in
-              omega (arith, c, w)))
+      (λ i h. let c = check-two i in
+      let w = clean-check e z i h in
+      omega (arith, c, w)))
 
 -- bits that agree are packed into the same bytes
 pub packed-cong-bits : (b c : ℕ → ℕ) → ((p : ℕ) → 1 ≤ p → p ≤ 144 → b p ≡ c p) → packed b ≡ packed c

@@ -6,3 +6,4 @@ pub mod Fields
 pub mod Mended
 pub mod Answered
 pub mod Laws
+pub mod Determined

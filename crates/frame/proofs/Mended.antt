@@ -117,12 +117,14 @@ guarded-apart n m a b c d e = let z = eqb→eq (n - 1) (m - 1) apart in omega (a
     entries-same : getD guardedEntries (n - 1) 0 ≡ getD guardedEntries (m - 1) 0
     entries-same =
         let f : getD guardedEntries (n - 1) 0 / 16 ≡ getD guardedEntries (m - 1) 0 / 16
-                = entry-field n a b ∙ sym (field-of-guarded n a b) ∙ ap fieldAt e ∙ field-of-guarded m c d ∙ sym (entry-field m c d) in
+        = entry-field n a b ∙ sym (field-of-guarded n a b) ∙ ap fieldAt e ∙ field-of-guarded m c d ∙ sym (entry-field m c d) in
         let g : getD guardedEntries (n - 1) 0 % 16 ≡ getD guardedEntries (m - 1) 0 % 16
-                = entry-bit n a b ∙ sym (bit-of-guarded n a b) ∙ ap bitIn e ∙ bit-of-guarded m c d ∙ sym (entry-bit m c d) in
+        = entry-bit n a b ∙ sym (bit-of-guarded n a b) ∙ ap bitIn e ∙ bit-of-guarded m c d ∙ sym (entry-bit m c d) in
         omega (arith, f, g)
+
     tested : T (differ (n - 1) (m - 1))
     tested = below (differ (n - 1)) 15 (below (λ i. allBelow 15 (differ i)) 15 all-differ (n - 1) (omega arith)) (m - 1) (omega arith)
+
     apart : T (eqb (n - 1) (m - 1))
     apart = told (n - 1) (m - 1) entries-same tested
 

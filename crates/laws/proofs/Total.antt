@@ -87,13 +87,17 @@ total-two f p q n a b c d apart h =
   where
     g : ℕ → ℕ
     g k = cond (eqb k q) 0 (f k)
+
     at-q : g q ≡ 0
     at-q = rw (eq-eqb q q refl)
+
     at-p : g p ≡ f p
     at-p = rw (ne-eqb p q apart)
+
     away : (k : ℕ) → 1 ≤ k → k ≤ n → (k ≡ p → ⊥) → Dec (k ≡ q) → g k ≡ 0
     away k r s t (yes e) = rw (eq-eqb k q e)
     away k r s t (no e) = rw (ne-eqb k q e) (h k r s t e)
+
     rest : (k : ℕ) → Dec (k ≡ q) → (k ≡ q → ⊥) → g k ≡ f k
     rest k (yes e) t = absurd (t e)
     rest k (no e) t = rw (ne-eqb k q e)

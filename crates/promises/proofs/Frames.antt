@@ -57,28 +57,30 @@ module _ (r : Record) where
     where
       index : (f : ℕ) → 1 ≤ f → withParity r (parityOf r) f ≡ indexOf r f
       index f a = rw (ne-eqb f 0 (λ e. omega arith))
+
       here : (f : ℕ) → 1 ≤ f → f ≤ 28 → valueOf bits-sent f ≡ indexOf r f
       here f a l =
           value-sent (withParity r (parityOf r)) f (omega arith)
           (rw (index f a, bits-width f a) (none-too-large r fits f a l))
-              ∙ index f a
+          ∙ index f a
 
   record-read : Shaped r → tooLarge r ≡ 0 → recordOf (mended (bitAt (frameOf r))) ≡ r
   record-read shaped fits =
       record-cong (mended (bitAt (frameOf r))) bits-sent
       (λ p a h. clean-same (bitAt (frameOf r)) frame-clean p a ∙ frame-bit p a h)
-          ∙ record-sent shaped fits
+      ∙ record-sent shaped fits
 
 pub reads-back : ReadsBack
 unfolding ReadsBack
 reads-back r s shaped e =
     ap readingOf (sym (left r s Written.Frame (sym e)))
-        ∙ read-eighteen (frameOf r) (frame-long r)
-        ∙ (λ i. record
-            { verdict = Verdict.Read
-            ; indices = record-read r shaped (a .fits) i
-            ; number = frame-clean r i
-            ; mark = (ap recordMark (record-read r shaped (a .fits)) ∙ a .order) i })
+    ∙ read-eighteen (frameOf r) (frame-long r)
+    ∙ (λ i. record {
+      verdict = Verdict.Read;
+      indices = record-read r shaped (a .fits) i;
+      number = frame-clean r i;
+      mark = (ap recordMark (record-read r shaped (a .fits)) ∙ a .order) i;
+    })
   where
     a : Accepted r (length s)
     a = accepted-only r (length s) e
@@ -98,8 +100,8 @@ module _ (s : List ℕ) (long : length s ≡ 18) where
   read-bit : (f i : ℕ) → 1 ≤ f → f ≤ 28 → i < widthOf f → readBit s f i ≡ mended (bitAt s) (placeOf f i)
   read-bit f i a l w =
       ap (λ (r : Record). bit (indexOf r f) i) read-indices
-          ∙ ap (λ (x : ℕ). bit x i) (index-of-record (mended (bitAt s)) f a l)
-          ∙ value-bit (mended (bitAt s)) f (omega arith) (mended-bits (bitAt s) (bitAt-small s)) i (rw (bits-width f a) w)
+      ∙ ap (λ (x : ℕ). bit x i) (index-of-record (mended (bitAt s)) f a l)
+      ∙ value-bit (mended (bitAt s)) f (omega arith) (mended-bits (bitAt s) (bitAt-small s)) i (rw (bits-width f a) w)
 
 -- what is read fits its fields, and has the shape of a record
 module _ (b : ℕ → ℕ) (bits : (p : ℕ) → b p < 2) where
@@ -116,8 +118,8 @@ module _ (b : ℕ → ℕ) (bits : (p : ℕ) → b p < 2) where
   clean-parity e =
       same-bits 4 (parityOf (recordOf b)) (valueOf b 0) (parity-below (recordOf b)) (value-small b 0 (omega arith) bits)
       (λ i l. let t = parity-told b bits i l in
-          let c = clean-check b e i l in
-          omega (arith, t, c))
+      let c = clean-check b e i l in
+      omega (arith, t, c))
 
 -- a clean frame is the frame of the record read in it
 back-again : (s : List ℕ) → Eighteen s → number (bitAt s) ≡ 0 → frameOf (recordOf (bitAt s)) ≡ s
@@ -127,6 +129,7 @@ back-again s full e =
   where
     b : ℕ → ℕ
     b = bitAt s
+
     same : (p : ℕ) → 1 ≤ p → p ≤ 144 → sent (withParity (recordOf b) (parityOf (recordOf b))) p ≡ b p
     same p a l =
         ap (λ (h : ℕ). sent (withParity (recordOf b) h) p) (clean-parity b (bitAt-small s) e) ∙ sym (as-sent b (bitAt-small s) p a l)
@@ -137,33 +140,42 @@ same-bits-back s t full long = (clean, back)
   where
     b : ℕ → ℕ
     b = bitAt s
+
     r : Record
     r = recordOf (mended b)
+
     is : readingOf s .indices ≡ r
     is = read-indices s (full .long)
+
     clean : WritesBack s t → Clean s
-    clean w = record
-        { parity = read-number s (full .long) ∙ ap (λ (l : List ℕ). number (bitAt l)) (sym whole) ∙ frame-clean (readingOf s .indices)
-        ; expansion = a .expansion
-        ; order = read-mark s (full .long) ∙ ap recordMark (sym is) ∙ a .order }
+    clean w = record {
+      parity = read-number s (full .long) ∙ ap (λ (l : List ℕ). number (bitAt l)) (sym whole) ∙ frame-clean (readingOf s .indices);
+      expansion = a .expansion;
+      order = read-mark s (full .long) ∙ ap recordMark (sym is) ∙ a .order;
+    }
       where
         a : Accepted (readingOf s .indices) (length t)
         a = accepted-only (readingOf s .indices) (length t) (w .accepted)
+
         whole : frameOf (readingOf s .indices) ≡ s
         whole = left (readingOf s .indices) t Written.Frame (sym (w .accepted)) ∙ w .same
+
     back : Clean s → WritesBack s t
     back c = record { accepted = sym yes-accepted; same = sym (left (readingOf s .indices) t Written.Frame yes-accepted) ∙ whole }
       where
         zero-number : number b ≡ 0
         zero-number = sym (read-number s (full .long)) ∙ c .parity
+
         same : r ≡ recordOf b
         same = record-cong (mended b) b (λ p a l. clean-same b zero-number p a)
+
         yes-accepted : Written.Frame ≡ writtenOf (readingOf s .indices) (length t)
         yes-accepted =
             accepted (readingOf s .indices) (length t) long
             (ap tooLarge is ∙ read-fits (mended b) (mended-bits b (bitAt-small s)))
             (ap recordMark is ∙ sym (read-mark s (full .long)) ∙ c .order)
             (c .expansion)
+
         whole : frameOf (readingOf s .indices) ≡ s
         whole = ap frameOf (is ∙ same) ∙ back-again s full zero-number
 
@@ -176,7 +188,7 @@ module _ (w e : List ℕ) where
   unfolding bitAt
   flipped-bit p a l =
       ap (λ (x : ℕ). bit x (shiftOf p)) (getD-tabulate (λ k. bitXor (getD w k 0) (getD e k 0)) 0 18 (byteOf p) (omega arith))
-          ∙ bit-xor (getD w (byteOf p) 0) (getD e (byteOf p) 0) (shiftOf p)
+      ∙ bit-xor (getD w (byteOf p) 0) (getD e (byteOf p) 0) (shiftOf p)
 
 -- a frame that the writer made
 module _ (w : List ℕ) (made : Made w) where
@@ -191,21 +203,23 @@ module _ (w : List ℕ) (made : Made w) where
     flips-number : readingOf (flipped w e) .number ≡ readingOf e .number
     flips-number =
         read-number (flipped w e) (flipped-long w e)
-            ∙ number-over (bitAt w) (bitAt e) (bitAt (flipped w e)) (flipped-bit w e) made-clean
-            ∙ sym (read-number e (full .long))
+        ∙ number-over (bitAt w) (bitAt e) (bitAt (flipped w e)) (flipped-bit w e) made-clean
+        ∙ sym (read-number e (full .long))
 
     flips-bit : (f i : ℕ) → 1 ≤ f → f ≤ 28 → i < widthOf f → readBit (flipped w e) f i ≡ (readBit w f i + readBit e f i) % 2
     flips-bit f i a l h =
         read-bit (flipped w e) (flipped-long w e) f i a l h
-            ∙ mended-over (bitAt w) (bitAt e) (bitAt (flipped w e)) (flipped-bit w e) made-clean (placeOf f i) first last
-            ∙ ap (λ (x : ℕ). (x + mended (bitAt e) (placeOf f i)) % 2)
-                (sym (clean-same (bitAt w) made-clean (placeOf f i) first) ∙ sym (read-bit w made-long f i a l h))
-            ∙ ap (λ (x : ℕ). (readBit w f i + x) % 2) (sym (read-bit e (full .long) f i a l h))
+        ∙ mended-over (bitAt w) (bitAt e) (bitAt (flipped w e)) (flipped-bit w e) made-clean (placeOf f i) first last
+        ∙ ap (λ (x : ℕ). (x + mended (bitAt e) (placeOf f i)) % 2)
+        (sym (clean-same (bitAt w) made-clean (placeOf f i) first) ∙ sym (read-bit w made-long f i a l h))
+        ∙ ap (λ (x : ℕ). (readBit w f i + x) % 2) (sym (read-bit e (full .long) f i a l h))
       where
         wide : i < bitsIn f
         wide = rw (bits-width f a) h
+
         first : 1 ≤ placeOf f i
         first = place-first f i (omega arith) wide
+
         last : placeOf f i ≤ 144
         last = place-last f i (omega arith) wide
 
@@ -217,25 +231,30 @@ pub one-mended : OneMended
 unfolding OneMended
 one-mended w e made full m a l rest n b k held =
     flips-bit w made e full F K one (omega (arith, small)) wide
-        ∙ (let z : readBit e F K ≡ 0 = gone in
-           let s : readBit w F K < 2 = omega arith in
-           omega (arith, z, s))
+    ∙ (let z : readBit e F K ≡ 0 = gone in
+    let s : readBit w F K < 2 = omega arith in
+    omega (arith, z, s))
   where
     F : ℕ
     F = fieldOf (guardedName n)
+
     K : ℕ
     K = bitOf (guardedName n)
+
     small : F < 29
     small = guarded-field-small n b k
+
     one : 1 ≤ F
     one = omega (arith, held)
+
     wide : K < widthOf F
     wide = subst (λ (x : ℕ). K < x) (bits-width F one) (guarded-bit-small n b k)
+
     gone : readBit e F K ≡ 0
     gone =
         read-bit e (full .long) F K one (omega (arith, small)) wide
-            ∙ ap (mended (bitAt e)) (sym (guarded-place n b k))
-            ∙ mended-one (bitAt e) (bitAt-small e) m a l rest n b k
+        ∙ ap (mended (bitAt e)) (sym (guarded-place n b k))
+        ∙ mended-one (bitAt e) (bitAt-small e) m a l rest n b k
 
 pub two-reported : TwoReported
 unfolding TwoReported
@@ -255,13 +274,15 @@ module _ (b c : ℕ → ℕ) (bits : (p : ℕ) → b p < 2) (bits′ : (p : ℕ)
     where
       one : 1 ≤ fieldAt p
       one = omega (arith, e)
+
       small : fieldAt p ≤ 28
       small = let h = field-small p a l in omega (arith, h)
+
       told : (d : ℕ → ℕ) (bits : (p : ℕ) → d p < 2) → bit (indexOf (recordOf (mended d)) (fieldAt p)) (bitIn p) ≡ mended d p
       told d bits =
           ap (λ (x : ℕ). bit x (bitIn p)) (index-of-record (mended d) (fieldAt p) one small)
-              ∙ value-bit (mended d) (fieldAt p) (field-small p a l) (mended-bits d bits) (bitIn p) (bit-small p a l)
-              ∙ ap (mended d) (place-of-here p a l)
+          ∙ value-bit (mended d) (fieldAt p) (field-small p a l) (mended-bits d bits) (bitIn p) (bit-small p a l)
+          ∙ ap (mended d) (place-of-here p a l)
 
   data-same : (p : ℕ) → 1 ≤ p → p ≤ 144 → (fieldAt p ≡ 0 → ⊥) → b p ≡ c p
   data-same p a l e = go (ℕ-discrete p (guardedPlace (number b)))
@@ -281,7 +302,7 @@ module _ (b c : ℕ → ℕ) (bits : (p : ℕ) → b p < 2) (bits′ : (p : ℕ)
   value-same f a l =
       same-bits (bitsIn f) (valueOf b f) (valueOf c f) (value-small b f (omega arith) bits) (value-small c f (omega arith) bits′)
       (λ i h. value-bit b f (omega arith) bits i h ∙ data-same (placeOf f i) (place-first f i (omega arith) h) (place-last f i (omega arith) h) (apart i h)
-          ∙ sym (value-bit c f (omega arith) bits′ i h))
+      ∙ sym (value-bit c f (omega arith) bits′ i h))
     where
       apart : (i : ℕ) → i < bitsIn f → fieldAt (placeOf f i) ≡ 0 → ⊥
       apart i h z = let g = field-of-place f i (omega arith) h in omega (arith, g, z)
@@ -294,29 +315,29 @@ module _ (b c : ℕ → ℕ) (bits : (p : ℕ) → b p < 2) (bits′ : (p : ℕ)
   parity-same =
       same-bits 4 (valueOf b 0) (valueOf c 0) (value-small b 0 (omega arith) bits) (value-small c 0 (omega arith) bits′)
       (λ i l. let x = parity-told b bits i l in
-          let y = parity-told c bits′ i l in
-          let u = bit-number b i l in
-          let v = bit-number c i l in
-          let n : bit (number b) i ≡ bit (number c) i = ap (λ (k : ℕ). bit k i) same-number in
-          let r : bit (parityOf (recordOf b)) i ≡ bit (parityOf (recordOf c)) i = ap (λ (k : Record). bit (parityOf k) i) records-same in
-          omega (arith, x, y, u, v, n, r))
+      let y = parity-told c bits′ i l in
+      let u = bit-number b i l in
+      let v = bit-number c i l in
+      let n : bit (number b) i ≡ bit (number c) i = ap (λ (k : ℕ). bit k i) same-number in
+      let r : bit (parityOf (recordOf b)) i ≡ bit (parityOf (recordOf c)) i = ap (λ (k : Record). bit (parityOf k) i) records-same in
+      omega (arith, x, y, u, v, n, r))
 
   all-same : (p : ℕ) → 1 ≤ p → p ≤ 144 → b p ≡ c p
   all-same p a l =
       as-sent b bits p a l
-          ∙ ap (λ (r : Record). sent (withParity r (valueOf b 0)) p) records-same
-          ∙ ap (λ (h : ℕ). sent (withParity (recordOf c) h) p) parity-same
-          ∙ sym (as-sent c bits′ p a l)
+      ∙ ap (λ (r : Record). sent (withParity r (valueOf b 0)) p) records-same
+      ∙ ap (λ (h : ℕ). sent (withParity (recordOf c) h) p) parity-same
+      ∙ sym (as-sent c bits′ p a l)
 
 pub one-frame : OneFrame
 unfolding OneFrame
 one-frame s t full full′ same-record same-number =
     sym (packed-bits s (full .long) (full .bytes))
-        ∙ packed-cong-bits (bitAt s) (bitAt t)
-            (all-same (bitAt s) (bitAt t) (bitAt-small s) (bitAt-small t)
-                (sym (read-indices s (full .long)) ∙ same-record ∙ read-indices t (full′ .long))
-                (sym (read-number s (full .long)) ∙ same-number ∙ read-number t (full′ .long)))
-        ∙ packed-bits t (full′ .long) (full′ .bytes)
+    ∙ packed-cong-bits (bitAt s) (bitAt t)
+    (all-same (bitAt s) (bitAt t) (bitAt-small s) (bitAt-small t)
+    (sym (read-indices s (full .long)) ∙ same-record ∙ read-indices t (full′ .long))
+    (sym (read-number s (full .long)) ∙ same-number ∙ read-number t (full′ .long)))
+    ∙ packed-bits t (full′ .long) (full′ .bytes)
 
 -- a frame with the guarded place of one number inverted
 module _ (r : Record) (n : ℕ) (h : n < 16) where
@@ -345,6 +366,7 @@ module _ (r : Record) (n : ℕ) (h : n < 16) where
       none : n ≡ 0 → (m : ℕ) → 1 ≤ m → m ≤ 15 → alone (guardedPlace m) ≡ 0
       none z m a l =
           alone-away (guardedPlace m) (λ w. let f = guarded-first m a l in let g : guardedPlace n ≡ 0 = ap guardedPlace z ∙ nowhere in omega (arith, f, g, w))
+
       go : Dec (n ≡ 0) → number alone ≡ n
       go (yes z) = number-none alone alone-small 1 (omega arith) (omega arith) (λ m a l e. none z m a l) (none z 1 (omega arith) (omega arith)) ∙ sym z
       go (no z) =
@@ -357,6 +379,7 @@ module _ (r : Record) (n : ℕ) (h : n < 16) where
     where
       place : guardedPlace (number alone) ≡ guardedPlace n
       place = ap guardedPlace alone-number
+
       go : Dec (p ≡ guardedPlace n) → mended alone p ≡ 0
       go (yes e) = mended-there alone p (e ∙ sym place) ∙ ap inverted (alone-there p e)
       go (no e) = mended-same alone p (λ w. e (w ∙ place)) ∙ alone-away p e
@@ -374,21 +397,22 @@ module _ (r : Record) (n : ℕ) (h : n < 16) where
 
   comes : Shaped r → tooLarge r ≡ 0 → Comes r n
   comes shaped fits =
-      record
-      { from = packed marked
-      ; eighteen = record { long = length-packed marked; bytes = packed-byte marked marked-small }
-      ; reads =
-          read-indices (packed marked) (length-packed marked)
-              ∙ record-cong (mended (bitAt (packed marked))) (bits-sent r)
-              (λ p a l. mended-over (bits-sent r) alone (bitAt (packed marked)) marked-over (written-clean r) p a l
-                  ∙ (let z = alone-mended p a in
-                     let s = sent-small (withParity r (parityOf r)) p in
-                     omega (arith, z, s)))
-              ∙ record-sent r shaped fits
-      ; numbered =
-          read-number (packed marked) (length-packed marked)
-              ∙ number-over (bits-sent r) alone (bitAt (packed marked)) marked-over (written-clean r)
-              ∙ alone-number }
+      record {
+        from = packed marked;
+        eighteen = record { long = length-packed marked; bytes = packed-byte marked marked-small };
+        reads =
+            read-indices (packed marked) (length-packed marked)
+            ∙ record-cong (mended (bitAt (packed marked))) (bits-sent r)
+            (λ p a l. mended-over (bits-sent r) alone (bitAt (packed marked)) marked-over (written-clean r) p a l
+            ∙ (let z = alone-mended p a in
+            let s = sent-small (withParity r (parityOf r)) p in
+            omega (arith, z, s)))
+            ∙ record-sent r shaped fits;
+        numbered =
+            read-number (packed marked) (length-packed marked)
+            ∙ number-over (bits-sent r) alone (bitAt (packed marked)) marked-over (written-clean r)
+            ∙ alone-number;
+      }
 
 pub sixteen-frames : SixteenFrames
 unfolding SixteenFrames

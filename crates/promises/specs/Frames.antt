@@ -69,7 +69,7 @@ unfoldable pub DamageAlone : Type 0
 DamageAlone =
     (w e : List ℕ) → Made w → Eighteen e
     → ((f i : ℕ) → 1 ≤ f → f ≤ 28 → i < widthOf f → readBit (flipped w e) f i ≡ (readBit w f i + readBit e f i) % 2)
-        × (readingOf (flipped w e) .number ≡ readingOf e .number)
+    × (readingOf (flipped w e) .number ≡ readingOf e .number)
 
 -- the guarded place of number n is flipped
 abbrev pub Flipped : List ℕ → ℕ → Type 0

@@ -57,9 +57,10 @@ module _ (r : Record) where
       parameters =
           ext-getD 0 (tabulate (λ k. v (k + 1)) 10) (r .lsp) (length-tabulate (λ k. v (k + 1)) 10 ∙ sym ten)
           (λ k h. let l : k < 10 = subst (λ (n : ℕ). k < n) (length-tabulate (λ k. v (k + 1)) 10) h in
-              getD-tabulate (λ k. v (k + 1)) 0 10 k l ∙ same (k + 1) (omega arith) (omega arith) ∙ index-parameter k l)
+          getD-tabulate (λ k. v (k + 1)) 0 10 k l ∙ same (k + 1) (omega arith) (omega arith) ∙ index-parameter k l)
+
       indices : tabulate (λ k. v (k + 11)) 16 ≡ r .subframes
       indices =
           ext-getD 0 (tabulate (λ k. v (k + 11)) 16) (r .subframes) (length-tabulate (λ k. v (k + 11)) 16 ∙ sym sixteen)
           (λ k h. let l : k < 16 = subst (λ (n : ℕ). k < n) (length-tabulate (λ k. v (k + 11)) 16) h in
-              getD-tabulate (λ k. v (k + 11)) 0 16 k l ∙ same (k + 11) (omega arith) (omega arith) ∙ index-subframe k l)
+          getD-tabulate (λ k. v (k + 11)) 0 16 k l ∙ same (k + 11) (omega arith) (omega arith) ∙ index-subframe k l)

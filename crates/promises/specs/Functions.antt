@@ -1,0 +1,93 @@
+-- The promises about frames said of the two functions themselves: of any answer and any bytes left that the contracts of
+-- `frame::write` and `frame::read` allow.
+use mathlib.Core.Path.{_≡_}
+use mathlib.Core.List.{List}
+use mathlib.Core.Logic.{_↔_}
+use Prim.Native.Nat.{ℕ, _+_, _%_, _<_, _≤_}
+use lib.ListN.{length}
+use contract.Lifetimes.{Lfts}
+use denote.Ref.{now}
+use denote.Triple.Clauses.{AtExit}
+use borrow.Fn.Kinds.{Dens, endedOf}
+use Rattle.laws.specs.Total.{bit}
+use Rattle.record.specs.Fields.{indexOf, widthOf}
+use Rattle.record.specs.declared.Record.{Record}
+use Rattle.frame.specs.Places.{fieldOf, bitOf}
+use Rattle.frame.specs.Parity.{guardedName}
+use Rattle.frame.specs.declared.Reading.{Reading}
+use Rattle.frame.specs.declared.Verdict.the-variants as Verdict
+use Rattle.frame.specs.declared.Written.{Written}
+use Rattle.frame.specs.declared.Written.the-variants as Written
+use Rattle.frame.proofs.read.Kinds as read
+use Rattle.frame.proofs.read.Reads as read-reads
+use Rattle.frame.proofs.write.Kinds as write
+use Rattle.frame.proofs.write.Reads as write-reads
+use Rattle.promises.specs.Frames.{Shaped, Eighteen, flipped, Flipped, Unflipped}
+
+-- `read`, lent the bytes s, may answer d
+pub record Answers (s : List ℕ) (d : Reading) : Type 0 where
+  pub lifetimes : Lfts 1
+  pub lent : Dens lifetimes read.ps
+  pub at-exit : AtExit (endedOf 1 read.ps read.r) lifetimes
+  pub bytes : now (lent .0) ≡ s
+  pub allowed : read-reads.Post lifetimes lent d at-exit
+
+-- `write`, handed the record r and lent a buffer that holds s, may answer a and leave the bytes t
+pub record Leaves (r : Record) (s : List ℕ) (a : Written) (t : List ℕ) : Type 0 where
+  pub lifetimes : Lfts 1
+  pub lent : Dens lifetimes write.ps
+  pub at-exit : AtExit (endedOf 1 write.ps write.r) lifetimes
+  pub handed : lent .0 ≡ r
+  pub held : now (lent .1 .0) ≡ s
+  pub left : now (at-exit .1 .0) ≡ t
+  pub allowed : write-reads.Post lifetimes lent a at-exit
+
+-- what `read` answers on the bytes that `write` left
+unfoldable pub WriteThenRead : Type 0
+WriteThenRead =
+    (r : Record) (s t : List ℕ) (d : Reading) → Shaped r → Leaves r s Written.Frame t → Answers t d
+    → d ≡ record { verdict = Verdict.Read; indices = r; number = 0; mark = 0 }
+
+-- what `write` leaves of the record that `read` answered: the same bytes exactly when the reading was clean
+unfoldable pub ReadThenWrite : Type 0
+ReadThenWrite =
+    (s t u : List ℕ) (d : Reading) (a : Written) → Eighteen s → length t ≡ 18 → Answers s d → Leaves (d .indices) t a u
+    → ((a ≡ Written.Frame) × (u ≡ s)) ↔ ((d .number ≡ 0) × (d .indices .sp ≡ 0) × (d .mark ≡ 0))
+
+-- a frame that `write` left, the flips e, and what `read` answers on the frame, on the flips alone and on the flipped frame
+pub record Damaged (w e : List ℕ) (clean alone damaged : Reading) : Type 0 where
+  pub written : Record
+  pub shaped : Shaped written
+  pub buffer : List ℕ
+  pub leaves : Leaves written buffer Written.Frame w
+  pub flips : Eighteen e
+  pub reads-clean : Answers w clean
+  pub reads-alone : Answers e alone
+  pub reads-damaged : Answers (flipped w e) damaged
+
+unfoldable pub RepairByDamage : Type 0
+RepairByDamage =
+    (w e : List ℕ) (clean alone damaged : Reading) → Damaged w e clean alone damaged
+    → ((f i : ℕ) → 1 ≤ f → f ≤ 28 → i < widthOf f
+    → bit (indexOf (damaged .indices) f) i ≡ (bit (indexOf (clean .indices) f) i + bit (indexOf (alone .indices) f) i) % 2)
+    × (damaged .number ≡ alone .number)
+
+unfoldable pub OneFlip : Type 0
+OneFlip =
+    (w e : List ℕ) (clean alone damaged : Reading) → Damaged w e clean alone damaged → (m : ℕ) → 1 ≤ m → m ≤ 15
+    → ((n : ℕ) → 1 ≤ n → n ≤ 15 → (n ≡ m → ⊥) → Unflipped e n)
+    → (n : ℕ) → 1 ≤ n → n ≤ 15 → (fieldOf (guardedName n) ≡ 0 → ⊥)
+    → bit (indexOf (damaged .indices) (fieldOf (guardedName n))) (bitOf (guardedName n))
+    ≡ bit (indexOf (clean .indices) (fieldOf (guardedName n))) (bitOf (guardedName n))
+
+unfoldable pub TwoFlips : Type 0
+TwoFlips =
+    (w e : List ℕ) (clean alone damaged : Reading) → Damaged w e clean alone damaged
+    → (m n : ℕ) → 1 ≤ m → m ≤ 15 → 1 ≤ n → n ≤ 15 → (m ≡ n → ⊥) → Flipped e m → Flipped e n
+    → ((q : ℕ) → 1 ≤ q → q ≤ 15 → (q ≡ m → ⊥) → (q ≡ n → ⊥) → Unflipped e q)
+    → damaged .number ≡ 0 → ⊥
+
+unfoldable pub NoTwoFrames : Type 0
+NoTwoFrames =
+    (s t : List ℕ) (c d : Reading) → Eighteen s → Eighteen t → Answers s c → Answers t d
+    → c .indices ≡ d .indices → c .number ≡ d .number → s ≡ t
