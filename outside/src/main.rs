@@ -7,7 +7,7 @@ use std::path::Path;
 use std::process::ExitCode;
 
 const USAGE: &str =
-    "usage: outside tables | numbers | fours | sample | list | hear | recordings DIR N SEED";
+    "usage: outside tables | numbers | sample | list | hear | recordings DIR N SEED";
 
 /// Recordings longer than this get no `.hear` file.
 const LONGEST_HEARD: usize = 20_000;
@@ -18,7 +18,6 @@ fn main() -> ExitCode {
     let done = match words[..] {
         ["tables"] => print(&tables::text()),
         ["numbers"] => print(numbers::text().as_bytes()),
-        ["fours"] => print(numbers::fours().as_bytes()),
         ["sample"] => print(&cases::sample()),
         ["list"] => input().and_then(|recording| print(&listing::list(&recording))),
         ["hear"] => input().and_then(|recording| print(&hear::hear(&recording))),

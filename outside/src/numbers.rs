@@ -10,8 +10,8 @@ use crate::refusal::Refusal;
 use crate::tables::{CG, DELAY_BYTES, DELAY_RANKS, PG, TWELFTHS, WIDTHS};
 use std::fmt::{Display, Write};
 
-/// The numbers x0 = 1, x1, x2 ... of sixteen bits; the first one taken is x0.
-struct Sequence(u16);
+/// Sixteen-bit numbers: the high halves of y0 = 1, y1, y2 ... of 32 bits, whose low bits repeat too soon.
+struct Sequence(u32);
 
 impl Sequence {
     fn start() -> Self {
@@ -19,9 +19,9 @@ impl Sequence {
     }
 
     fn next(&mut self) -> u16 {
-        let x = self.0;
-        self.0 = x.wrapping_mul(25_173).wrapping_add(13_849);
-        x
+        let high = (self.0 >> 16) as u16;
+        self.0 = self.0.wrapping_mul(1_664_525).wrapping_add(1_013_904_223);
+        high
     }
 }
 
@@ -158,22 +158,26 @@ fn averages(out: &mut String) {
     }
 }
 
+/// Sets of four delays that lie on both sides of every window's ends, some of them off the list.
 fn four_delays(out: &mut String) {
     let mut x = Sequence::start();
     for case in 0..1000 {
-        let mut four = [0; 4];
-        for n in 0..4 {
-            if case % 2 == 1 && n % 2 == 1 {
-                let before = delays::rank(four[n - 1]).unwrap_or(0);
-                let rank = i32::from(before) + i32::from(x.next() % 64) - 31;
-                four[n] = TWELFTHS[rank.clamp(0, 255) as usize].into();
+        let mut before = 0;
+        let four = [1, 2, 3, 4].map(|subframe| {
+            let (a, b) = (x.next(), x.next());
+            let rank = if subframe % 2 == 1 {
+                i32::from(a % 256)
             } else {
-                four[n] = TWELFTHS[usize::from(x.next() % 256)].into();
-                if x.next().is_multiple_of(8) {
-                    four[n] += 1;
-                }
+                (i32::from(base(before)) + i32::from(a % 70) - 3).clamp(0, 255)
+            };
+            before = rank as u8;
+            let delay = u32::from(TWELFTHS[rank as usize]);
+            match b % 24 {
+                0 => delay + 1,
+                1 => delay - 1,
+                _ => delay,
             }
-        }
+        });
         four_line(out, case, four);
     }
 }
@@ -187,67 +191,35 @@ fn four_line(out: &mut String, case: usize, four: [u32; 4]) {
     }
 }
 
-/// More sets of four delays: the low bits of the sequence above repeat so soon that its sets
-/// do, too, and none is refused with 5 in subframe 4. These come from the high half of a
-/// sequence of 32 bits, and lie on both sides of every window's ends.
-pub fn fours() -> String {
-    let mut out = String::new();
-    let mut y: u32 = 1;
-    let mut next = || {
-        let high = y >> 16;
-        y = y.wrapping_mul(1_664_525).wrapping_add(1_013_904_223);
-        high
-    };
-    for case in 0..4000 {
-        let mut before = 0;
-        let four = [1, 2, 3, 4].map(|subframe| {
-            let (a, b) = (next(), next());
-            let rank = if subframe % 2 == 1 {
-                (a % 256) as i32
-            } else {
-                (i32::from(base(before)) + (a % 70) as i32 - 3).clamp(0, 255)
-            };
-            before = rank as u8;
-            let delay = u32::from(TWELFTHS[rank as usize]);
-            match b % 24 {
-                0 => delay + 1,
-                1 => delay - 1,
-                _ => delay,
-            }
-        });
-        four_line(&mut out, case, four);
-    }
-    out
-}
-
 #[cfg(test)]
 mod tests {
     use super::*;
 
     #[test]
-    fn the_sequence_starts_with_1() {
+    fn the_sequence_is_that_of_the_high_halves() {
         let mut x = Sequence::start();
-        assert_eq!([x.next(), x.next(), x.next()], [1, 39_022, 61_087]);
+        assert_eq!([x.next(), x.next(), x.next()], [0, 15_496, 24_200]);
     }
 
     #[test]
-    fn fours_reach_every_refusal_and_many_codes() {
-        let text = fours();
+    fn four_delays_reach_every_refusal_and_many_codes() {
+        let mut text = String::new();
+        four_delays(&mut text);
         let lines: Vec<&str> = text.lines().collect();
-        assert_eq!(lines.len(), 4000);
+        assert_eq!(lines.len(), 1000);
         let ending = |refusal: &str| lines.iter().filter(|line| line.ends_with(refusal)).count();
         for subframe in 1..=4 {
-            assert!(ending(&format!(" refused 4 {subframe}")) > 50);
+            assert!(ending(&format!(" refused 4 {subframe}")) > 20);
         }
-        assert!(ending(" refused 5 2") > 50 && ending(" refused 5 4") > 50);
-        assert!(lines.iter().filter(|line| line.contains(" codes ")).count() > 1000);
+        assert!(ending(" refused 5 2") > 20 && ending(" refused 5 4") > 20);
+        assert!(lines.iter().filter(|line| line.contains(" codes ")).count() > 300);
         let mut sets: Vec<&str> = lines
             .iter()
             .map(|line| line.splitn(3, ' ').nth(2).unwrap())
             .collect();
         sets.sort_unstable();
         sets.dedup();
-        assert_eq!(sets.len(), 4000);
+        assert_eq!(sets.len(), 1000);
     }
 
     #[test]
