@@ -1,0 +1,21 @@
+-- The twelve worked numbers, computed.
+-- Assumes nothing.
+use Rattle.laws.specs.Lowest.{lowestFrom}
+use Rattle.laws.specs.Tabulate.{tabulateFrom}
+use Rattle.laws.specs.Total.{total, fromBits}
+use Rattle.laws.specs.Place.{placeOf}
+use Rattle.gains.specs.Tables.{cgTable, pgTable}
+use Rattle.gains.specs.Nearest.{apart, nearestOf}
+use Rattle.delays.specs.Table.{delays, bytes, twelfthsOf, rankOf, rankWith}
+use Rattle.lsp.specs.Table.{hzTable, hertzOf}
+use Rattle.lsp.specs.Order.{markOf}
+use Rattle.codebook.specs.Draw.{freshGenerator, wrapped, drawOf}
+use Rattle.frame.specs.Places.{places, seek}
+use Rattle.frame.specs.Parity.{guardedPlace, number, mended}
+use Rattle.frame.specs.Frame.{bitAt, packed, valueOf}
+use Rattle.frame.specs.Answers.{readingOf, recordMark}
+use Rattle.promises.specs.Worked.{workedNumbers, AllTwelve}
+
+pub all-twelve : AllTwelve
+unfolding AllTwelve workedNumbers apart nearestOf twelfthsOf rankOf rankWith lowestFrom tabulateFrom total fromBits placeOf cgTable pgTable delays bytes hzTable hertzOf markOf freshGenerator wrapped drawOf places seek guardedPlace number mended bitAt packed valueOf readingOf recordMark
+all-twelve = tt
