@@ -10,3 +10,4 @@ pub mod Every
 pub mod Signed
 pub mod Held
 pub mod Place
+pub mod Joined

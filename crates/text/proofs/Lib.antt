@@ -1,0 +1,6 @@
+pub mod Laid
+pub mod Wrote
+pub mod Decimal
+pub mod Turns
+pub mod Worked
+pub mod Determined
