@@ -1,5 +1,6 @@
 -- `frame::read` meets its contract: each step's answer handed to the next.
 -- Assumes nothing.
+use native.Mathlib.Omega.{arith}
 use Rattle.laws.specs.Tabulate.{tabulateFrom}
 use Rattle.frame.proofs.Answered.{read-refused, read-whole, number-fits}
 use borrow.Author.Needs.{needs}
@@ -28,7 +29,7 @@ number-of-requires c κs = search needs
 
 -- src/lib.rt:225:29
 mend-requires : tie.Need-mend-requires
-mend-requires c κs = number-fits _ _ _ (c .before .gather .ensures) (c .number-of .ensures)
+mend-requires c κs = let h = number-fits _ _ _ (c .before .gather .ensures) (c .number-of .ensures) in omega (arith, h)
 
 -- src/lib.rt:225:9
 to-record-requires : tie.Need-to-record-requires
