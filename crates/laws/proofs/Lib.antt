@@ -11,3 +11,4 @@ pub mod Signed
 pub mod Held
 pub mod Place
 pub mod Joined
+pub mod Turns

@@ -3,3 +3,4 @@ pub mod Lowest
 pub mod Tabulate
 pub mod Total
 pub mod Place
+pub mod Turns

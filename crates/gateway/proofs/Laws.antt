@@ -1,0 +1,142 @@
+-- What the definitions of specs/ say, for whoever cites the contracts: 56 bytes and a record are two ways to write the same, and the
+-- results have their ranges.
+-- Assumes nothing.
+use mathlib.Core.Path.{_≡_, _∙_, sym, refl, ap, subst}
+use mathlib.Core.Bool.{Bool, true, false, cond}
+use mathlib.Core.List.{List}
+use mathlib.Core.Logic.{_⊎_, inl, inr}
+use Prim.Native.Nat.{ℕ, _+_, _-_, _*_, _/_, _%_, _<_, _≤_}
+use native.Mathlib.Omega.{arith}
+use native.Mathlib.Decide.{ℕ-discrete, decLe}
+use borrow.Author.Tests.{eq-eqb, ne-eqb}
+use lib.Dec.{eqb}
+use lib.IntN.{ℤ, pos}
+use lib.ListN.{length, getD}
+use lib.Seq.{ext-getD}
+use Rattle.laws.specs.Tabulate.{tabulate}
+use Rattle.laws.proofs.Tabulate.{length-tabulate, getD-tabulate}
+use Rattle.record.specs.Fields.{indexOf}
+use Rattle.record.specs.declared.Record.{Record}
+use Rattle.record.proofs.Laws.{index-parameter, index-subframe, record-is}
+use Rattle.frame.specs.Answers.{readingOf, writtenOf, refusalOf}
+use Rattle.frame.specs.declared.Reading.{Reading}
+use Rattle.frame.specs.declared.Verdict.{Verdict}
+use Rattle.frame.specs.declared.Verdict.the-variants as Verdict
+use Rattle.frame.specs.declared.Written.{Written}
+use Rattle.frame.specs.declared.Written.the-variants as Written
+use Rattle.gateway.specs.Pairs.{pairAt, byteOf, bytesOf, indexIn, recordIn}
+use Rattle.gateway.specs.Results.{refused, readAnswer, readResult, writeResult}
+use Rattle.gateway.proofs.Pairs.{low-byte, high-byte}
+
+pub length-bytes : (r : Record) → length (bytesOf r) ≡ 56
+unfolding bytesOf
+length-bytes r = length-tabulate (byteOf r) 56
+
+pub byte-at : (r : Record) (i : ℕ) → i < 56 → getD (bytesOf r) i 0 ≡ byteOf r i
+unfolding bytesOf
+byte-at r i h = getD-tabulate (byteOf r) 0 56 i h
+
+-- the bytes of a record hold its indices
+pub index-of-bytes : (r : Record) (f : ℕ) → 1 ≤ f → f ≤ 28 → indexIn (bytesOf r) f ≡ indexOf r f
+index-of-bytes r f a b =
+    let low : getD (bytesOf r) (2 * (f - 1)) 0 ≡ indexOf r (f - 1 + 1) % 256 = byte-at r (2 * (f - 1)) (omega arith) ∙ low-byte r (f - 1) in
+    let high : getD (bytesOf r) (2 * (f - 1) + 1) 0 ≡ indexOf r (f - 1 + 1) / 256 = byte-at r (2 * (f - 1) + 1) (omega arith) ∙ high-byte r (f - 1) in
+    let same : indexOf r (f - 1 + 1) ≡ indexOf r f = ap (indexOf r) there in
+    omega (arith, low, high, same)
+  where
+    there : f - 1 + 1 ≡ f
+    there = omega arith
+
+-- so a record comes back out of its bytes
+pub record-of-bytes : (r : Record) → length (r .lsp) ≡ 10 → length (r .subframes) ≡ 16 → recordIn (bytesOf r) ≡ r
+unfolding recordIn
+record-of-bytes r ten sixteen = record-is r (indexIn (bytesOf r)) ten sixteen (index-of-bytes r)
+
+-- the index in a field of a record that is given field by field
+module _ (v : ℕ → ℕ) where
+  abbrev given : Record
+  given = record { lsp = tabulate (λ k. v (k + 1)) 10; subframes = tabulate (λ k. v (k + 11)) 16; sp = v 27; sy = v 28 }
+
+  pub index-given : (f : ℕ) → 1 ≤ f → f ≤ 28 → indexOf given f ≡ v f
+  index-given f a b = parameter (decLe f 10)
+    where
+      last : Dec (f ≡ 27) → 26 < f → indexOf given f ≡ v f
+      last (yes e) h = rw e
+      last (no e) h = let w : f ≡ 28 = omega arith in rw w
+
+      subframe : Dec (f ≤ 26) → 10 < f → indexOf given f ≡ v f
+      subframe (yes q) h =
+          let back : f - 11 + 11 ≡ f = omega arith in
+          ap (indexOf given) (sym back) ∙ index-subframe given (f - 11) (omega arith)
+          ∙ getD-tabulate (λ k. v (k + 11)) 0 16 (f - 11) (omega arith) ∙ ap v back
+      subframe (no q) h = last (ℕ-discrete f 27) (omega arith)
+
+      parameter : Dec (f ≤ 10) → indexOf given f ≡ v f
+      parameter (yes q) =
+          let back : f - 1 + 1 ≡ f = omega arith in
+          ap (indexOf given) (sym back) ∙ index-parameter given (f - 1) (omega arith)
+          ∙ getD-tabulate (λ k. v (k + 1)) 0 10 (f - 1) (omega arith) ∙ ap v back
+      parameter (no q) = subframe (decLe f 26) (omega arith)
+
+-- so the record in 56 bytes has the indices in them
+pub index-in-record : (s : List ℕ) (f : ℕ) → 1 ≤ f → f ≤ 28 → indexOf (recordIn s) f ≡ indexIn s f
+unfolding recordIn
+index-in-record s f a b = index-given (indexIn s) f a b
+
+-- every 56 bytes are a record's
+pub bytes-of-record : (s : List ℕ) → length s ≡ 56 → ((i : ℕ) → i < 56 → getD s i 0 < 256) → bytesOf (recordIn s) ≡ s
+bytes-of-record s long bytes =
+    ext-getD 0 (bytesOf (recordIn s)) s (length-bytes (recordIn s) ∙ sym long)
+    (λ i h. let l : i < 56 = subst (λ (n : ℕ). i < n) (length-bytes (recordIn s)) h in
+    byte-at (recordIn s) i l ∙ half i l (ℕ-discrete (i % 2) 0))
+  where
+    index : (i : ℕ) → i < 56 → indexOf (recordIn s) (i / 2 + 1) ≡ pairAt s (2 * (i / 2 + 1 - 1))
+    index i l = index-in-record s (i / 2 + 1) (omega arith) (omega arith)
+
+    half : (i : ℕ) → i < 56 → Dec (i % 2 ≡ 0) → byteOf (recordIn s) i ≡ getD s i 0
+    half i l (yes e) =
+        let at : 2 * (i / 2 + 1 - 1) ≡ i = omega arith in
+        let whole : indexOf (recordIn s) (i / 2 + 1) ≡ getD s i 0 + 256 * getD s (i + 1) 0 = index i l ∙ ap (pairAt s) at in
+        let small = bytes i l in
+        rw (eq-eqb (i % 2) 0 e) (omega (arith, whole, small))
+    half i l (no e) =
+        let at : 2 * (i / 2 + 1 - 1) ≡ i - 1 = omega arith in
+        let next : i - 1 + 1 ≡ i = omega arith in
+        let high : getD s (i - 1 + 1) 0 ≡ getD s i 0 = ap (λ (k : ℕ). getD s k 0) next in
+        let whole : indexOf (recordIn s) (i / 2 + 1) ≡ getD s (i - 1) 0 + 256 * getD s (i - 1 + 1) 0 = index i l ∙ ap (pairAt s) at in
+        let small = bytes (i - 1) (omega arith) in
+        rw (ne-eqb (i % 2) 0 e) (omega (arith, whole, small, high))
+
+-- the reader answers -1 or 16 times the mark plus the number, which `reading-small` and `reading-apart` of Ranges bound and take apart
+pub read-result : (s : List ℕ) (n : ℕ)
+    → (readResult s n ≡ refused 1) ⊎ (readResult s n ≡ pos (16 * readingOf s .mark + readingOf s .number))
+unfolding readResult
+read-result s n = sized (eqb n 56)
+  where
+    told : (a : Reading) (v : Verdict) → a .verdict ≡ v → (readAnswer a ≡ refused 1) ⊎ (readAnswer a ≡ pos (16 * a .mark + a .number))
+    told a Verdict.Read e = inr (rw e)
+    told a Verdict.WrongLength e = inl (rw e)
+
+    sized : (t : Bool) → let z = cond t (readAnswer (readingOf s)) (refused 1) in (z ≡ refused 1) ⊎ (z ≡ pos (16 * readingOf s .mark + readingOf s .number))
+    sized true = told (readingOf s) (readingOf s .verdict) refl
+    sized false = inl refl
+
+-- the writer answers 0 or one of the four refusals 1, 2, 3 and 6
+pub write-result : (s : List ℕ) (n : ℕ)
+    → (writeResult s n ≡ pos 0) ⊎ ((writeResult s n ≡ refused 1) ⊎ ((writeResult s n ≡ refused 2) ⊎ ((writeResult s n ≡ refused 3) ⊎ (writeResult s n ≡ refused 6))))
+unfolding writeResult
+write-result s n = sized (eqb (length s) 56)
+  where
+    One : ℤ → Type 0
+    One z = (z ≡ pos 0) ⊎ ((z ≡ refused 1) ⊎ ((z ≡ refused 2) ⊎ ((z ≡ refused 3) ⊎ (z ≡ refused 6))))
+
+    told : (w : Written) → One (refused (refusalOf w))
+    told Written.Frame = inl refl
+    told Written.WrongLength = inr (inl refl)
+    told (Written.TooLarge f) = inr (inr (inl refl))
+    told (Written.Falling m) = inr (inr (inr (inl refl)))
+    told Written.Expansion = inr (inr (inr (inr refl)))
+
+    sized : (t : Bool) → One (refused (cond t (refusalOf (writtenOf (recordIn s) n)) 1))
+    sized true = told (writtenOf (recordIn s) n)
+    sized false = inr (inl refl)

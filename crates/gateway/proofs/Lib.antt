@@ -1,0 +1,5 @@
+pub mod Pairs
+pub mod Ranges
+pub mod Answered
+pub mod Laws
+pub mod Determined

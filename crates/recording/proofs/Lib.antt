@@ -1,0 +1,6 @@
+pub mod Blocks
+pub mod Walks
+pub mod Voices
+pub mod Frames
+pub mod Passes
+pub mod Determined

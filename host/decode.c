@@ -1,0 +1,65 @@
+/*
+ * oatlantern-decode: 18-byte frames on standard input, one line of text for
+ * each on standard output: the 28 indices in field order, the correction
+ * number, the order mark.
+ */
+#include <errno.h>
+#include <stdio.h>
+#include <string.h>
+
+#include "oatlantern.h"
+
+static const char NAME[] = "oatlantern-decode";
+
+/* Prints the line of one frame; 0 where it could not be printed. */
+static int print_frame(const uint8_t *record, int32_t result)
+{
+    int field;
+
+    for (field = 1; field <= OATLANTERN_FIELDS; field++)
+        if (printf("%u ", (unsigned)oatlantern_get_index(record, field)) < 0)
+            return 0;
+    return printf("%d %d\n", oatlantern_number(result), oatlantern_mark(result)) >= 0;
+}
+
+int main(int argc, char **argv)
+{
+    uint8_t frame[OATLANTERN_FRAME_BYTES];
+    uint8_t record[OATLANTERN_RECORD_BYTES];
+    unsigned long count = 0;
+
+    (void)argv;
+    if (argc != 1) {
+        fprintf(stderr, "usage: %s < FRAMES > LINES\n", NAME);
+        return 2;
+    }
+
+    for (;;) {
+        size_t got = fread(frame, 1, sizeof frame, stdin);
+        int32_t result;
+
+        if (ferror(stdin)) {
+            fprintf(stderr, "%s: standard input: %s\n", NAME, strerror(errno));
+            return 1;
+        }
+        if (got == 0)
+            break;
+        count++;
+        result = oatlantern_read_frame(frame, got, record, sizeof record);
+        if (oatlantern_is_refused(result)) {
+            if (fflush(stdout) == EOF)
+                break;
+            fprintf(stderr, "%s: frame %lu: refused %d: it has %lu bytes, not %d\n", NAME, count,
+                    oatlantern_refusal(result), (unsigned long)got, OATLANTERN_FRAME_BYTES);
+            return 1;
+        }
+        if (!print_frame(record, result))
+            break;
+    }
+
+    if (fflush(stdout) == EOF || ferror(stdout)) {
+        fprintf(stderr, "%s: standard output: %s\n", NAME, strerror(errno));
+        return 1;
+    }
+    return 0;
+}

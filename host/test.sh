@@ -1,0 +1,170 @@
+#!/bin/sh
+# Tries the host programs, as built and again under the address and undefined-behaviour sanitizers: there and back, the refusals,
+# malformed and very long lines. Silent but for the last line; exit status 1 at the first fault.
+set -eu
+cd "$(dirname "$0")"
+
+out=../target/host
+make -s all
+mkdir -p $out/sanitized
+for p in decode encode; do
+    ${CC:-cc} -std=c99 -Wall -Wextra -pedantic -Werror -g -O1 -fsanitize=address,undefined -fno-sanitize-recover=all \
+        -I../include -o $out/sanitized/oatlantern-$p $p.c ../target/staticlib/libgateway.a
+done
+
+tmp=$(mktemp -d)
+trap 'rm -rf "$tmp"' EXIT
+checks=0
+
+fail() {
+    echo "host/test.sh: $1" >&2
+    exit 1
+}
+
+# same WHAT FILE FILE
+same() {
+    cmp -s "$2" "$3" || fail "$bin: $1"
+    checks=$((checks + 1))
+}
+
+# refused WHAT PROGRAM INPUT STATUS MESSAGE: the program ends so and says exactly this one line. What it wrote is in $tmp/got.
+refused() {
+    status=0
+    "$bin/$2" < "$3" > "$tmp/got" 2> "$tmp/said" || status=$?
+    [ $status -eq "$4" ] || fail "$bin: $1: status $status"
+    printf '%s\n' "$5" > "$tmp/wanted"
+    same "$1: what it says" "$tmp/wanted" "$tmp/said"
+}
+
+# Lines of records that the writer takes, made by a small sequence of numbers: the parameters from rows in order (in the last row two are
+# equal), the subframe indices over their whole widths, SP 0.
+lines() {
+    awk -v count="$1" 'BEGIN {
+        row[0] = "0 0 0 0 0 0 0 0 0 0"
+        row[1] = "3 3 3 3 3 3 3 3 3 3"
+        row[2] = "7 15 15 15 15 7 7 7 7 7"
+        row[3] = "4 8 5 9 10 5 5 4 4 4"
+        row[4] = "1 5 0 1 2 0 0 0 0 0"
+        row[5] = "0 0 0 12 9 3 3 3 3 3"
+        split("8 5 9 5 6 5 9 5 8 5 9 5 6 5 9 5", width, " ")
+        x = 1
+        for (n = 0; n < count; n++) {
+            line = row[n % 6]
+            for (f = 1; f <= 16; f++) {
+                x = (x * 25173 + 13849) % 65536
+                line = line " " int(x / 16) % 2 ^ width[f]
+            }
+            print line " 0 " n % 2
+        }
+    }'
+}
+
+for bin in $out $out/sanitized; do
+    # There and back.
+    lines 1000 > "$tmp/lines"
+    "$bin/oatlantern-encode" < "$tmp/lines" > "$tmp/frames"
+    [ "$(wc -c < "$tmp/frames")" -eq $((18 * $(wc -l < "$tmp/lines"))) ] || fail "$bin: the frames' size"
+    "$bin/oatlantern-decode" < "$tmp/frames" > "$tmp/read"
+    sed 's/$/ 0 0/' "$tmp/lines" > "$tmp/wanted"
+    same "records come back, number and mark 0" "$tmp/wanted" "$tmp/read"
+    "$bin/oatlantern-encode" < "$tmp/read" > "$tmp/again"
+    same "clean frames come back" "$tmp/frames" "$tmp/again"
+
+    # Other layouts of the same numbers.
+    sed 's/ /\t  /g; s/^/ /; s/$/ \r/' "$tmp/lines" | "$bin/oatlantern-encode" > "$tmp/again"
+    same "spaces, tabs, carriage returns" "$tmp/frames" "$tmp/again"
+    sed 's/\([0-9][0-9]*\)/000000000000000000000000\1/g' "$tmp/lines" | "$bin/oatlantern-encode" > "$tmp/again"
+    same "leading zeros" "$tmp/frames" "$tmp/again"
+    printf '%s' "$(cat "$tmp/lines")" | "$bin/oatlantern-encode" > "$tmp/again"
+    same "no newline at the end" "$tmp/frames" "$tmp/again"
+
+    # The worked frames: zero; only place 104; only places 11 and 61; only place 21.
+    z='\0\0\0\0\0\0\0\0\0\0\0\0\0\0\0\0\0\0'
+    printf "$z"'\0\0\0\0\0\0\0\0\0\0\0\0\1\0\0\0\0\0\0\40\0\0\0\0\0\10\0\0\0\0\0\0\0\0\0\0\0\0\10\0\0\0\0\0\0\0\0\0\0\0\0\0\0\0' > "$tmp/worked"
+    "$bin/oatlantern-decode" < "$tmp/worked" > "$tmp/read"
+    {
+        echo '0 0 0 0 0 0 0 0 0 0 0 0 0 0 0 0 0 0 0 0 0 0 0 0 0 0 0 0 0 0'
+        echo '0 0 0 0 0 0 0 0 0 0 0 0 0 0 0 0 0 0 0 0 0 0 0 0 0 0 0 0 15 0'
+        echo '0 0 0 0 0 0 0 0 0 0 224 0 0 0 0 0 0 0 0 0 0 0 0 0 0 0 0 0 6 0'
+        echo '0 0 0 0 0 0 0 0 0 0 0 0 0 0 0 0 0 0 0 0 0 0 0 0 0 0 0 0 1 0'
+    } > "$tmp/wanted"
+    same "worked frames" "$tmp/wanted" "$tmp/read"
+
+    # A mended frame is written as it was mended.
+    sed -n '2p' "$tmp/read" | "$bin/oatlantern-encode" > "$tmp/again"
+    printf "$z" > "$tmp/wanted"
+    same "a mended frame" "$tmp/wanted" "$tmp/again"
+
+    # Nothing in, nothing out.
+    "$bin/oatlantern-decode" < /dev/null > "$tmp/read"
+    "$bin/oatlantern-encode" < /dev/null > "$tmp/again"
+    same "nothing" "$tmp/read" "$tmp/again"
+    same "nothing" /dev/null "$tmp/again"
+
+    # A part of a frame at the end, after a whole one.
+    head -c 25 "$tmp/worked" > "$tmp/part"
+    refused "part of a frame" oatlantern-decode "$tmp/part" 1 'oatlantern-decode: frame 2: refused 1: it has 7 bytes, not 18'
+    echo '0 0 0 0 0 0 0 0 0 0 0 0 0 0 0 0 0 0 0 0 0 0 0 0 0 0 0 0 0 0' > "$tmp/wanted"
+    same "the frame before it" "$tmp/wanted" "$tmp/got"
+
+    # Refused and malformed lines, each as line 2 after a sound one: only the first frame is written.
+    sound='0 0 0 0 0 0 0 0 0 0 0 0 0 0 0 0 0 0 0 0 0 0 0 0 0 0 0 0'
+    printf "$z" > "$tmp/first"
+    bad() {
+        printf '%s\n%s\n%s\n' "$sound" "$1" "$sound" > "$tmp/in"
+        refused "$1" oatlantern-encode "$tmp/in" 1 "oatlantern-encode: line 2: $2"
+        same "$1: only the line before it is written" "$tmp/first" "$tmp/got"
+    }
+    large='refused 2: an index is too large for its field'
+    bad '8 0 0 0 0 0 0 0 0 0 0 0 0 0 0 0 0 0 0 0 0 0 0 0 0 0 0 0' "$large"
+    bad '0 0 0 0 0 0 0 0 0 0 256 0 0 0 0 0 0 0 0 0 0 0 0 0 0 0 0 0' "$large"
+    bad '0 0 0 0 0 0 0 0 0 0 0 0 0 0 0 0 0 0 0 0 0 0 0 0 0 0 0 2' "$large"
+    bad '0 0 0 0 0 0 0 0 0 0 0 0 0 0 0 0 0 0 0 0 0 0 0 0 0 0 2 0' "$large"
+    bad '65536 0 0 0 0 0 0 0 0 0 0 0 0 0 0 0 0 0 0 0 0 0 0 0 0 0 0 0' "$large"
+    bad '4294967296 0 0 0 0 0 0 0 0 0 0 0 0 0 0 0 0 0 0 0 0 0 0 0 0 0 0 0' "$large"
+    bad '18446744073709551616 0 0 0 0 0 0 0 0 0 0 0 0 0 0 0 0 0 0 0 0 0 0 0 0 0 0 0' "$large"
+    bad '7 0 0 0 0 0 0 0 0 0 0 0 0 0 0 0 0 0 0 0 0 0 0 0 0 0 0 0' 'refused 3: the line spectral parameters fall'
+    bad '7 0 0 0 0 0 0 0 0 0 0 0 0 0 0 0 0 0 0 0 0 0 0 0 0 0 1 0' 'refused 3: the line spectral parameters fall'
+    bad '0 0 0 0 0 0 0 0 0 0 0 0 0 0 0 0 0 0 0 0 0 0 0 0 0 0 1 0' 'refused 6: the expansion bit SP is set'
+    bad '' 'malformed: 0 numbers, not 28 or 30'
+    bad '0 0 0' 'malformed: 3 numbers, not 28 or 30'
+    bad "$sound 0" 'malformed: 29 numbers, not 28 or 30'
+    bad "$sound 0 0 0" 'malformed: 31 numbers, not 28 or 30'
+    bad "x $sound" 'malformed: byte 0x78 is no digit and no space'
+    bad "-1 $sound" 'malformed: byte 0x2d is no digit and no space'
+    bad "0x1 $sound" 'malformed: byte 0x78 is no digit and no space'
+    printf '%s\n\0%s\n' "$sound" "$sound" > "$tmp/in"
+    refused "a zero byte" oatlantern-encode "$tmp/in" 1 'oatlantern-encode: line 2: malformed: byte 0x00 is no digit and no space'
+    printf '%s\n\377\n' "$sound" > "$tmp/in"
+    refused "byte 255" oatlantern-encode "$tmp/in" 1 'oatlantern-encode: line 2: malformed: byte 0xff is no digit and no space'
+
+    # Lines of a million bytes: spaces, digits, numbers.
+    head -c 1000000 /dev/zero | tr '\0' ' ' > "$tmp/in"
+    echo "$sound" >> "$tmp/in"
+    "$bin/oatlantern-encode" < "$tmp/in" > "$tmp/again"
+    same "a million spaces" "$tmp/first" "$tmp/again"
+    { head -c 1000000 /dev/zero | tr '\0' 9; echo " ${sound#0 }"; } > "$tmp/in"
+    refused "a million digits" oatlantern-encode "$tmp/in" 1 "oatlantern-encode: line 1: $large"
+    { head -c 1000000 /dev/zero | tr '\0\n' '0 ' | sed 's/0/0 /g'; echo; } > "$tmp/in"
+    refused "a million numbers" oatlantern-encode "$tmp/in" 1 'oatlantern-encode: line 1: malformed: 1000000 numbers, not 28 or 30'
+
+    # Arguments, and an output that takes nothing.
+    for p in decode encode; do
+        status=0
+        "$bin/oatlantern-$p" --what < /dev/null > "$tmp/got" 2> "$tmp/said" || status=$?
+        [ $status -eq 2 ] && [ ! -s "$tmp/got" ] || fail "$bin: $p with an argument: status $status"
+        checks=$((checks + 1))
+    done
+    if [ -e /dev/full ]; then
+        status=0
+        "$bin/oatlantern-decode" < "$tmp/frames" > /dev/full 2> "$tmp/said" || status=$?
+        [ $status -eq 1 ] && [ "$(wc -l < "$tmp/said")" -eq 1 ] || fail "$bin: decode on a full output: status $status"
+        status=0
+        "$bin/oatlantern-encode" < "$tmp/lines" > /dev/full 2> "$tmp/said" || status=$?
+        [ $status -eq 1 ] && [ "$(wc -l < "$tmp/said")" -eq 1 ] || fail "$bin: encode on a full output: status $status"
+        checks=$((checks + 2))
+    fi
+done
+
+[ $checks -gt 0 ] || fail "nothing was checked"
+echo "host/test.sh: $checks checks, 0 failed"
