@@ -123,3 +123,48 @@ module _ (s t : List ℕ) (same : t ≡ entries) {p : ℕ} {v : List ℕ} (g : G
 
   pub turn : Gathered (bitAt s) (bitAt-small s) (p + 1) (set v (getD t p 0 / 16) (getD v (getD t p 0 / 16) 0 + shifted))
   turn = rw (field-is, shifted-is) (gathered-more (bitAt s) (bitAt-small s) g h)
+
+-- the same where the place is told by its byte and the bit in it
+module _ (s t : List ℕ) (same : t ≡ entries) {k q : ℕ} {v : List ℕ} (g : Gathered (bitAt s) (bitAt-small s) (8 * k + q) v) (l : k < 18) (h : q < 8) where
+  within : 8 * k + q < 144
+  within = omega arith
+
+  byte-is : (8 * k + q) / 8 ≡ k
+  byte-is = omega arith
+
+  bit-is : (8 * k + q) % 8 ≡ q
+  bit-is = omega arith
+
+  pub turn-field-in : getD t (8 * k + q) 0 / 16 < 29
+  turn-field-in = turn-field s t same g within
+
+  pub turn-room-in : getD v (getD t (8 * k + q) 0 / 16) 0 + getD s k 0 / 2 ^ (7 - q) % 2 * 2 ^ (getD t (8 * k + q) 0 % 16) % 65536 < 65536
+  turn-room-in =
+      subst (λ (j : ℕ). getD v (getD t (8 * k + q) 0 / 16) 0 + getD s j 0 / 2 ^ (7 - q) % 2 * 2 ^ (getD t (8 * k + q) 0 % 16) % 65536 < 65536) byte-is
+      (subst (λ (j : ℕ). getD v (getD t (8 * k + q) 0 / 16) 0 + getD s ((8 * k + q) / 8) 0 / 2 ^ (7 - j) % 2 * 2 ^ (getD t (8 * k + q) 0 % 16) % 65536 < 65536) bit-is
+      (turn-room s t same g within))
+
+  pub turn-in : Gathered (bitAt s) (bitAt-small s) (8 * k + (q + 1))
+      (set v (getD t (8 * k + q) 0 / 16) (getD v (getD t (8 * k + q) 0 / 16) 0 + getD s k 0 / 2 ^ (7 - q) % 2 * 2 ^ (getD t (8 * k + q) 0 % 16) % 65536))
+  turn-in =
+      subst (λ (n : ℕ). Gathered (bitAt s) (bitAt-small s) n (set v (getD t (8 * k + q) 0 / 16) (getD v (getD t (8 * k + q) 0 / 16) 0 + getD s k 0 / 2 ^ (7 - q) % 2 * 2 ^ (getD t (8 * k + q) 0 % 16) % 65536))) after
+      (subst (λ (j : ℕ). Gathered (bitAt s) (bitAt-small s) (8 * k + q + 1) (set v (getD t (8 * k + q) 0 / 16) (getD v (getD t (8 * k + q) 0 / 16) 0 + getD s j 0 / 2 ^ (7 - q) % 2 * 2 ^ (getD t (8 * k + q) 0 % 16) % 65536))) byte-is
+      (subst (λ (j : ℕ). Gathered (bitAt s) (bitAt-small s) (8 * k + q + 1) (set v (getD t (8 * k + q) 0 / 16) (getD v (getD t (8 * k + q) 0 / 16) 0 + getD s ((8 * k + q) / 8) 0 / 2 ^ (7 - j) % 2 * 2 ^ (getD t (8 * k + q) 0 % 16) % 65536))) bit-is
+      (turn s t same g within)))
+    where
+      after : 8 * k + q + 1 ≡ 8 * k + (q + 1)
+      after = omega arith
+
+-- from a byte's first place to the next byte's
+module _ {b : ℕ → ℕ} {bits : (p : ℕ) → b p < 2} (k : ℕ) {v : List ℕ} where
+  pub byte-begun : Gathered b bits (8 * k) v → Gathered b bits (8 * k + 0) v
+  byte-begun g = subst (λ (n : ℕ). Gathered b bits n v) same g
+    where
+      same : 8 * k ≡ 8 * k + 0
+      same = omega arith
+
+  pub byte-done : (q : ℕ) → 8 ≤ q → q ≤ 8 → Gathered b bits (8 * k + q) v → Gathered b bits (8 * (k + 1)) v
+  byte-done q l h g = subst (λ (n : ℕ). Gathered b bits n v) same g
+    where
+      same : 8 * k + q ≡ 8 * (k + 1)
+      same = omega arith

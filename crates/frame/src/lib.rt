@@ -285,15 +285,18 @@ fn gather(frame: &[u8]) -> [u16; 29]
 {
     let table = table();
     let mut fields = [0u16; 29];
-    let mut p = 0;
-    while p < 144 {
-        let byte = frame[p / 8];
-        let x = (byte >> (7 - p % 8)) % 2;
-        let entry = table[p];
-        let f = (entry / 16) as usize;
-        let k = entry % 16;
-        fields[f] += (x as u16) << k;
-        p += 1;
+    let mut n = 0;
+    while n < 18 {
+        let byte = frame[n];
+        let from = 8 * n;
+        let mut q = 0;
+        while q < 8 {
+            let entry = table[from + q];
+            let f = (entry / 16) as usize;
+            fields[f] += (((byte >> (7 - q)) % 2) as u16) << (entry % 16);
+            q += 1;
+        }
+        n += 1;
     }
     fields
 }

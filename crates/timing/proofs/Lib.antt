@@ -1,0 +1,4 @@
+pub mod Copied
+pub mod Sized
+pub mod Drawn
+pub mod Determined
