@@ -12,3 +12,4 @@ pub mod Held
 pub mod Place
 pub mod Joined
 pub mod Turns
+pub mod Front

@@ -1,16 +1,15 @@
 -- The returns of `block_at`, and what a block at a place says of the bytes there.
 -- Assumes nothing.
-use mathlib.Core.Path.{_≡_, _∙_, sym, refl, ap}
+use mathlib.Core.Path.{_≡_, sym, refl}
 use mathlib.Core.Bool.{Bool, true, false, cond}
 use mathlib.Core.List.{List}
-use Prim.Native.Nat.{ℕ, _+_, _-_, _*_, _/_, _%_, _<_, _≤_}
+use Prim.Native.Nat.{ℕ, _+_, _-_, _*_, _%_, _<_, _≤_}
 use native.Mathlib.Omega.{arith}
 use borrow.Author.Tests.{le-leb, lt-leb, lt-ltb, le-ltb, eq-eqb, ne-eqb, leb-false, ltb-false, eqb-true, ltb-true}
 use lib.Dec.{eqb, leb, ltb}
 use lib.ListN.{length, getD}
 use Rattle.laws.specs.Table.{both}
 use Rattle.recording.specs.Blocks.{pairAt, wordAt, sizeAt, kindAt, ofKind, blockAt}
-use Rattle.recording.specs.declared.Cause.{Cause}
 use Rattle.recording.specs.declared.Cause.the-variants.{HeaderCut, PastEnd, WrongSize, UnknownKind, EndMissing}
 use Rattle.recording.specs.declared.Block.{Block}
 use Rattle.recording.specs.declared.Block.the-variants.{Head, Voice, End, Broken}

@@ -1,18 +1,17 @@
 -- The frames found one after the other are the frames of the voice blocks; the loop that counts them.
 -- Assumes nothing.
-use mathlib.Core.Path.{_≡_, _∙_, sym, refl, ap, subst}
+use mathlib.Core.Path.{_≡_, _∙_, sym, refl, ap}
 use mathlib.Core.Bool.{Bool, true, false, cond}
-use mathlib.Core.List.{List, [], _∷_, _++_, append-assoc}
+use mathlib.Core.List.{List, [], _∷_, _++_}
 use Prim.Native.Nat.{ℕ, zero, suc, _+_, _-_, _*_, _/_, _%_, _<_, _≤_}
 use native.Mathlib.Omega.{arith}
 use native.Mathlib.Numerals.{add-one}
 use native.Mathlib.Nat.{add-zero}
 use native.Mathlib.Decide.{ℕ-discrete, decLt}
 use borrow.Author.Tests.{eq-eqb, ne-eqb, lt-ltb, le-ltb}
-use lib.Dec.{eqb, ltb}
-use lib.ListN.{length, getD, take, drop, length-take, length-drop}
+use lib.Dec.{eqb}
+use lib.ListN.{length, take, drop, length-drop}
 use lib.Seq.{take-take, take-add, drop-at, drop-drop, length-take-le}
-use Rattle.laws.specs.Turns.{turns}
 use Rattle.laws.proofs.Turns.{turns-once}
 use Rattle.frame.specs.Answers.{readingOf}
 use Rattle.frame.specs.declared.Reading.{Reading}
@@ -28,8 +27,6 @@ use Rattle.recording.specs.declared.Walked.the-variants as Walked
 use Rattle.recording.specs.declared.Found.{Found}
 use Rattle.recording.specs.declared.Found.the-variants.{At, Nothing}
 use Rattle.recording.specs.declared.Tally.{Tally}
-use Rattle.recording.specs.declared.Summary.{Summary}
-use Rattle.recording.specs.declared.Judged.{Judged}
 use Rattle.recording.specs.declared.Judged.the-variants.{Sound, Refused}
 use Rattle.recording.proofs.Voices.{Sized, voice-sized, voices-none, voices-more}
 
@@ -208,14 +205,14 @@ even-none n sy o e = rw (ne-eqb (n % 2) 1 o, eq-eqb sy 1 e)
 pub even-one : (n sy : ℕ) → (n % 2 ≡ 1 → ⊥) → (sy ≡ 1 → ⊥) → 1 ≡ breakBy n sy
 even-one n sy o e = rw (ne-eqb (n % 2) 1 o, ne-eqb sy 1 e)
 
-repair-small : (n : ℕ) → repairBy n ≤ 1
+pub repair-small : (n : ℕ) → repairBy n ≤ 1
 repair-small n = go (eqb n 0)
   where
     go : (b : Bool) → cond b 0 1 ≤ 1
     go true = omega arith
     go false = omega arith
 
-break-small : (n sy : ℕ) → breakBy n sy ≤ 1
+pub break-small : (n sy : ℕ) → breakBy n sy ≤ 1
 break-small n sy = go (eqb sy (syncAt n))
   where
     go : (b : Bool) → cond b 0 1 ≤ 1

@@ -1,22 +1,19 @@
 -- A pass through the frames: the k-th step from the start hears frame k, after the state of all frames before it.
 -- Assumes nothing.
-use mathlib.Core.Path.{_≡_, _∙_, sym, refl, ap, ap₂, subst}
-use mathlib.Core.Bool.{Bool, true, false, cond}
+use mathlib.Core.Path.{_≡_, _∙_, sym, refl, ap, ap₂}
 use mathlib.Core.List.{List, [], _∷_, _++_}
 use Prim.Native.Nat.{ℕ, zero, suc, _+_, _-_, _<_, _≤_}
 use native.Mathlib.Omega.{arith}
 use native.Mathlib.Decide.{decLt}
 use borrow.Author.Tests.{lt-ltb, le-ltb}
-use lib.Dec.{ltb}
 use lib.ListN.{length, getD, take, drop, drop-of-length-le}
 use lib.Seq.{drop-cons, take-suc, take-all, length-take-le}
-use Rattle.record.specs.declared.Record.{Record}
 use Rattle.frame.specs.Answers.{readingOf}
 use Rattle.frame.specs.declared.Reading.{Reading}
 use Rattle.values.specs.Values.{freshState, valuesOf}
 use Rattle.values.specs.declared.State.{State}
 use Rattle.values.specs.declared.Values.{Values}
-use Rattle.recording.specs.Blocks.{blockAt, part}
+use Rattle.recording.specs.Blocks.{part}
 use Rattle.recording.specs.Walk.{walkedOf}
 use Rattle.recording.specs.Frames.{afterHead, ifWhole, framesOf, foundAt}
 use Rattle.recording.specs.Pass.{heardBy, heardIn, nothingHeard, stateThrough, heardOf, heardAt, startOf, stepBy, nextOf, passAt}
@@ -28,7 +25,6 @@ use Rattle.recording.specs.declared.Walked.{Walked}
 use Rattle.recording.specs.declared.Walked.the-variants as Walked
 use Rattle.recording.specs.declared.Found.{Found}
 use Rattle.recording.specs.declared.Found.the-variants.{At, Nothing}
-use Rattle.recording.specs.declared.Got.{Got}
 use Rattle.recording.specs.declared.Got.the-variants.{Frame, Done}
 use Rattle.recording.specs.declared.Heard.{Heard}
 use Rattle.recording.specs.declared.Pass.{Pass}
@@ -121,7 +117,7 @@ through-more before [] f = refl
 through-more before (g ∷ fs) f = through-more (heardIn before g .values .state) fs f
 
 -- frame k + 1 where there is one, and where there is none
-heard-there : (s : List ℕ) (k : ℕ) → k < length (framesOf s)
+pub heard-there : (s : List ℕ) (k : ℕ) → k < length (framesOf s)
     → heardAt s (suc k) ≡ heardIn (stateThrough freshState (take k (framesOf s))) (getD (framesOf s) k [])
 unfolding heardAt heardOf
 heard-there s k h = rw (lt-ltb k (length (framesOf s)) h)

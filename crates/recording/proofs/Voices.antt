@@ -1,15 +1,12 @@
 -- The voice blocks from a place on, one block at a time, and the part of the bytes that the k-th is.
 -- Assumes nothing.
 use mathlib.Core.Path.{_≡_, _∙_, sym, refl, ap, subst}
-use mathlib.Core.Bool.{Bool, true, false, cond}
 use mathlib.Core.List.{List, [], _∷_}
-use Prim.Native.Nat.{ℕ, zero, suc, _+_, _-_, _*_, _/_, _%_, _<_, _≤_}
+use Prim.Native.Nat.{ℕ, suc, _+_, _-_, _%_, _<_, _≤_}
 use native.Mathlib.Omega.{arith}
 use native.Mathlib.Decide.{ℕ-discrete}
 use borrow.Author.Tests.{eq-eqb, ne-eqb}
-use lib.Dec.{eqb}
-use lib.ListN.{length, getD, take, drop}
-use Rattle.laws.specs.Turns.{turns}
+use lib.ListN.{length, getD}
 use Rattle.laws.proofs.Turns.{turns-once}
 use Rattle.recording.specs.Blocks.{blockAt, part}
 use Rattle.recording.specs.Walk.{walkedOf}
@@ -21,7 +18,7 @@ use Rattle.recording.specs.declared.Block.the-variants.{Head, Voice, End
 use Rattle.recording.specs.declared.Heading.{Heading}
 use Rattle.recording.specs.declared.Walked.{Walked}
 use Rattle.recording.specs.declared.Walked.the-variants.{Whole, Refused}
-use Rattle.recording.proofs.Blocks.{voice-told}
+use Rattle.recording.proofs.Blocks.{Bounds, voice-told}
 
 -- the returns of `voice_size`
 module _ (s : List ℕ) (at : ℕ) where
@@ -57,6 +54,11 @@ pub record Sized (s : List ℕ) (at size : ℕ) : Type 0 where
   pub fits : at + 6 + size ≤ length s
   pub least : 18 ≤ size
   pub whole : size % 18 ≡ 0
+
+-- the block that it stands in
+pub voice-bounds : (s : List ℕ) (at size : ℕ) → size ≡ voiceSize s at → (size ≡ 0 → ⊥) → Bounds s at size 2
+voice-bounds s at size e n =
+    subst (λ (k : ℕ). Bounds s at k 2) (sym e) (voice-told s at (voiceSize s at) (voice-there s at (λ z. n (e ∙ z))) .0)
 
 pub voice-sized : (s : List ℕ) (at size : ℕ) → size ≡ voiceSize s at → (size ≡ 0 → ⊥) → Sized s at size
 voice-sized s at size e n =

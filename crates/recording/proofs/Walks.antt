@@ -3,7 +3,7 @@
 use mathlib.Core.Path.{_≡_, _∙_, sym, refl, ap, subst}
 use mathlib.Core.Bool.{Bool, true, false, cond}
 use mathlib.Core.List.{List}
-use Prim.Native.Nat.{ℕ, suc, _+_, _-_, _*_, _/_, _%_, _<_, _≤_}
+use Prim.Native.Nat.{ℕ, suc, _+_, _-_, _*_, _<_, _≤_}
 use native.Mathlib.Omega.{arith}
 use borrow.Author.Tests.{lt-ltb, le-ltb, eq-eqb, ne-eqb, ltb-false}
 use lib.Dec.{eqb, ltb}
@@ -11,7 +11,7 @@ use lib.ListN.{length}
 use Rattle.laws.specs.Turns.{turns}
 use Rattle.laws.proofs.Turns.{turns-once}
 use Rattle.recording.specs.Blocks.{blockAt}
-use Rattle.recording.specs.Walk.{longest, refuse, pastHead, pastVoice, atEnd, met, stepOf, atStart, onward, walkFrom, walkedOf}
+use Rattle.recording.specs.Walk.{longest, refuse, pastHead, pastVoice, met, stepOf, atStart, onward, walkFrom, walkedOf}
 use Rattle.recording.specs.declared.Cause.{Cause}
 use Rattle.recording.specs.declared.Cause.the-variants.{TooLong, OutOfTurn, EndMissing, WrongCount, Extra}
 use Rattle.recording.specs.declared.Block.{Block}
@@ -163,11 +163,14 @@ walking-on {s} {w} next k e =
     let f = step-further s w next e in
     record { rest = sym (walk-on s w next e) ∙ k .rest; within = f .within; room = f .room (k .room) }
 
+-- short enough, the whole is the walk from the start
+pub walked-from : (s : List ℕ) → length s ≤ longest → walkedOf s ≡ walkFrom s atStart
+unfolding walkedOf
+walked-from s l = rw (le-ltb longest (length s) l)
+
 pub walking-done : {s : List ℕ} {w : Walk} (answer : Walked) → length s ≤ longest → Walking s w → stepOf s w ≡ Done answer
     → answer ≡ walkedOf s
-unfolding walkedOf
-walking-done {s} {w} answer l k e =
-    sym (walk-done s w answer e) ∙ k .rest ∙ rw (le-ltb longest (length s) l)
+walking-done {s} {w} answer l k e = sym (walk-done s w answer e) ∙ k .rest ∙ sym (walked-from s l)
 
 pub too-long : (s : List ℕ) → longest < length s → Refused TooLong ≡ walkedOf s
 unfolding walkedOf

@@ -1,5 +1,5 @@
 -- Blocks (document 01, "Recordings"): a payload length (4 bytes, little-endian), a kind (2 bytes), the payload.
-use mathlib.Core.Bool.{Bool, cond}
+use mathlib.Core.Bool.{cond}
 use mathlib.Core.List.{List}
 use Prim.Native.Nat.{ℕ, _+_, _-_, _*_, _%_}
 use lib.Dec.{eqb, leb, ltb}

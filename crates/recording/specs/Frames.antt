@@ -7,12 +7,10 @@ use lib.ListN.{length, getD, take, drop}
 use Rattle.laws.specs.Turns.{turns}
 use Rattle.recording.specs.Blocks.{blockAt, part}
 use Rattle.recording.specs.Walk.{walkedOf}
-use Rattle.recording.specs.declared.Cause.{Cause}
 use Rattle.recording.specs.declared.Block.{Block}
 use Rattle.recording.specs.declared.Block.the-variants.{Head, Voice, End, Broken}
 use Rattle.recording.specs.declared.Found.{Found}
 use Rattle.recording.specs.declared.Found.the-variants.{At, Nothing}
-use Rattle.recording.specs.declared.Heading.{Heading}
 use Rattle.recording.specs.declared.Walked.{Walked}
 use Rattle.recording.specs.declared.Walked.the-variants.{Whole, Refused}
 

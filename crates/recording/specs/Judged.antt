@@ -3,15 +3,11 @@ use mathlib.Core.Bool.{cond}
 use mathlib.Core.List.{List, [], _∷_}
 use Prim.Native.Nat.{ℕ, suc, _+_, _%_}
 use lib.Dec.{eqb}
-use Rattle.record.specs.declared.Record.{Record}
 use Rattle.frame.specs.Answers.{readingOf}
-use Rattle.frame.specs.declared.Reading.{Reading}
 use Rattle.recording.specs.Walk.{walkedOf}
 use Rattle.recording.specs.Frames.{framesOf}
-use Rattle.recording.specs.declared.Heading.{Heading}
 use Rattle.recording.specs.declared.Walked.{Walked}
 use Rattle.recording.specs.declared.Walked.the-variants as Walked
-use Rattle.recording.specs.declared.Summary.{Summary}
 use Rattle.recording.specs.declared.Judged.{Judged}
 use Rattle.recording.specs.declared.Judged.the-variants.{Sound, Refused}
 

@@ -5,3 +5,7 @@ pub mod Frames
 pub mod Judged
 pub mod Pass
 pub mod Steps
+pub mod Rule
+pub mod Parts
+pub mod Running
+pub mod Made

@@ -4,12 +4,9 @@ use mathlib.Core.List.{List, [], _∷_}
 use Prim.Native.Nat.{ℕ, zero, suc, _+_}
 use lib.Dec.{ltb}
 use lib.ListN.{length, getD, take}
-use Rattle.record.specs.declared.Record.{Record}
 use Rattle.frame.specs.Answers.{readingOf}
-use Rattle.frame.specs.declared.Reading.{Reading}
 use Rattle.values.specs.Values.{freshState, valuesOf}
 use Rattle.values.specs.declared.State.{State}
-use Rattle.values.specs.declared.Values.{Values}
 use Rattle.recording.specs.Blocks.{part}
 use Rattle.recording.specs.Walk.{walkedOf}
 use Rattle.recording.specs.Frames.{afterHead, ifWhole, framesOf, foundAt}

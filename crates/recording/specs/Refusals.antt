@@ -2,6 +2,10 @@
 use mathlib.Core.List.{List, [], _∷_}
 use Prim.Native.Nat.{ℕ}
 use Rattle.recording.specs.declared.Cause.{Cause}
+use Rattle.recording.specs.declared.Walked.{Walked}
+use Rattle.recording.specs.declared.Walked.the-variants as Walked
+use Rattle.recording.specs.declared.Judged.{Judged}
+use Rattle.recording.specs.declared.Judged.the-variants as Judged
 use Rattle.recording.specs.declared.Cause.the-variants.{TooLong, HeaderCut, PastEnd, WrongSize, UnknownKind, OutOfTurn, EndMissing, WrongCount, Extra}
 
 abbrev pub refusalOf : Cause → ℕ
@@ -25,3 +29,20 @@ tellsOf (OutOfTurn p) = p ∷ []
 tellsOf (EndMissing p) = p ∷ []
 tellsOf (WrongCount p) = p ∷ []
 tellsOf (Extra p) = p ∷ []
+
+-- of the answers; 0 is no refusal
+abbrev pub walkedRefusal : Walked → ℕ
+walkedRefusal (Walked.Whole heading) = 0
+walkedRefusal (Walked.Refused cause) = refusalOf cause
+
+abbrev pub walkedTells : Walked → List ℕ
+walkedTells (Walked.Whole heading) = []
+walkedTells (Walked.Refused cause) = tellsOf cause
+
+abbrev pub judgedRefusal : Judged → ℕ
+judgedRefusal (Judged.Sound summary) = 0
+judgedRefusal (Judged.Refused cause) = refusalOf cause
+
+abbrev pub judgedTells : Judged → List ℕ
+judgedTells (Judged.Sound summary) = []
+judgedTells (Judged.Refused cause) = tellsOf cause

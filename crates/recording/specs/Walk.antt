@@ -1,7 +1,7 @@
 -- A recording is one head, one or more voice blocks, one end, nothing after, at most 65,536 bytes (document 01, "Recordings").
-use mathlib.Core.Bool.{Bool, true, false, cond}
+use mathlib.Core.Bool.{true, false, cond}
 use mathlib.Core.List.{List}
-use Prim.Native.Nat.{ℕ, suc, _+_, _-_, _*_, _/_}
+use Prim.Native.Nat.{ℕ, suc, _+_, _/_}
 use lib.Dec.{eqb, ltb}
 use lib.ListN.{length}
 use Rattle.laws.specs.Turns.{turns}
@@ -10,7 +10,6 @@ use Rattle.recording.specs.declared.Cause.{Cause}
 use Rattle.recording.specs.declared.Cause.the-variants.{TooLong, OutOfTurn, EndMissing, WrongCount, Extra}
 use Rattle.recording.specs.declared.Block.{Block}
 use Rattle.recording.specs.declared.Block.the-variants.{Head, Voice, End, Broken}
-use Rattle.recording.specs.declared.Heading.{Heading}
 use Rattle.recording.specs.declared.Walked.{Walked}
 use Rattle.recording.specs.declared.Walked.the-variants.{Whole, Refused}
 use Rattle.recording.specs.declared.Walk.{Walk}

@@ -357,7 +357,7 @@ fn voice_size(s: &[u8], at: usize) -> usize
 }
 
 // The next frame from a place on, where `left` bytes of a voice block are left; with none left, the first of the voice block there.
-fn find(s: &[u8], at: usize, left: usize) -> Found
+pub fn find(s: &[u8], at: usize, left: usize) -> Found
     ensures { λ r. ⌜ r ≡ foundAt (now (s .entry)) at left ⌝ }
 {
     if left == 0 {
@@ -409,7 +409,7 @@ fn count_frames(s: &[u8]) -> Tally
 }
 
 // 1 for a repaired frame, by its correction number.
-fn repair_by(number: usize) -> u32
+pub fn repair_by(number: usize) -> u32
     ensures { λ r. ⌜ r ≡ repairBy number ⌝ }
 {
     if number == 0 {
@@ -419,7 +419,7 @@ fn repair_by(number: usize) -> u32
 }
 
 // 1 for a sync break, by the frame's number and its SY.
-fn break_by(count: u32, sy: u16) -> u32
+pub fn break_by(count: u32, sy: u16) -> u32
     ensures { λ r. ⌜ r ≡ breakBy count sy ⌝ }
 {
     if count % 2 == 1 {

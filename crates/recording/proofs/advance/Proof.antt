@@ -4,111 +4,54 @@ use Rattle.recording.proofs.Walks.{step-broken, second-head, first-head
 use borrow.Author.Needs.{needs}
 use Rattle.recording.proofs.advance.Statement.{statement}
 use Rattle.recording.proofs.advance.Tie as tie
-use Rattle.recording.proofs.advance.Reads as reads
-use Rattle.recording.proofs.advance.Lts as lts
-use Rattle.recording.proofs.block_at.Reads as block-at-reads
 
--- src/lib.rt:162:11
-block-at-requires : tie.Need-block-at-requires
-block-at-requires c κs = search needs
-
--- src/lib.rt:163:23
-enum-known-cause : tie.Need-enum-known-cause
-enum-known-cause c = search needs
-
--- src/lib.rt:164:21
-enum-known-unit : tie.Need-enum-known-unit
-enum-known-unit c = search needs
-
--- src/lib.rt:166:17
 returns : tie.Need-returns
 returns c = second-head _ _ _ _ (sym (c .before .before .before .before .block-at .ensures) ∙ c .before .before .unit .given .1) (c .if1 .taken)
 
--- src/lib.rt:168:24
 add-next : tie.Need-add-next
 add-next c = let r = head-room _ (c .before .before .before .before .before .before .args .w) _ _ (sym (c .before .before .before .before .block-at .ensures) ∙ c .before .before .unit .given .1) in omega (arith, r)
 
--- src/lib.rt:177:22
-enum-known-size : tie.Need-enum-known-size
-enum-known-size c = search needs
-
--- src/lib.rt:179:28
 add-next-2 : tie.Need-add-next-2
 add-next-2 c = let r = voice-room _ (c .before .before .before .before .before .before .args .w) _ (sym (c .before .before .before .before .block-at .ensures) ∙ c .before .before .size .given .1) in omega (arith, r)
 
--- src/lib.rt:179:28
 add-next-3 : tie.Need-add-next-3
 add-next-3 c = let r = voice-room _ (c .before .before .before .before .before .before .args .w) _ (sym (c .before .before .before .before .block-at .ensures) ∙ c .before .before .size .given .1) in omega (arith, r)
 
--- src/lib.rt:180:28
 cast-more : tie.Need-cast-more
 cast-more c = let r = voice-room _ (c .before .before .before .before .before .before .args .w) _ (sym (c .before .before .before .before .block-at .ensures) ∙ c .before .before .size .given .1) in omega (arith, r, c .before .before .before .before .before .before .pre)
 
--- src/lib.rt:181:30
 add-frames : tie.Need-add-frames
 add-frames c = let r = voice-room _ (c .before .before .before .before .before .before .before .args .w) _ (sym (c .before .before .before .before .before .block-at .ensures) ∙ c .before .before .before .size .given .1) in omega (arith, r, c .before .before .before .before .before .before .before .pre)
 
--- src/lib.rt:182:17
 returns-2 : tie.Need-returns-2
 returns-2 c = voice-passed _ _ _ (sym (c .before .before .before .before .before .block-at .ensures) ∙ c .before .before .before .size .given .1) (c .before .if2 .taken)
 
--- src/lib.rt:192:20
-enum-known-told : tie.Need-enum-known-told
-enum-known-told c = search needs
-
--- src/lib.rt:194:17
 returns-3 : tie.Need-returns-3
 returns-3 c = end-early _ _ _ (sym (c .before .before .before .before .before .block-at .ensures) ∙ c .before .before .before .told .given .1) (c .if3 .taken)
 
--- src/lib.rt:197:17
 returns-4 : tie.Need-returns-4
 returns-4 c = wrong-count _ _ _ (sym (c .before .before .before .before .before .before .before .block-at .ensures) ∙ c .before .before .before .before .before .told .given .1) (c .before .before .if3 .left) (c .if4 .taken)
 
--- src/lib.rt:199:25
 add-after : tie.Need-add-after
 add-after c = let r = end-room _ (c .before .before .before .before .before .before .before .before .before .args .w) _ (sym (c .before .before .before .before .before .before .before .block-at .ensures) ∙ c .before .before .before .before .before .told .given .1) in omega (arith, r)
 
--- src/lib.rt:201:17
 returns-5 : tie.Need-returns-5
 returns-5 c = extra-bytes _ _ _ (sym (c .before .before .before .before .before .before .before .before .block-at .ensures) ∙ c .before .before .before .before .before .before .told .given .1) (c .before .before .before .if3 .left) (c .before .if4 .left) (c .if5 .taken)
 
--- src/lib.rt:156:1
 returns-6 : tie.Need-returns-6
 returns-6 c = step-broken _ _ _ (sym (c .before .before .before .block-at .ensures) ∙ c .before .cause .given .1)
 
--- src/lib.rt:156:1
 returns-7 : tie.Need-returns-7
 returns-7 c = first-head _ _ _ _ (sym (c .before .before .before .before .block-at .ensures) ∙ c .before .before .unit .given .1) (c .if1 .left)
 
--- src/lib.rt:156:1
 returns-8 : tie.Need-returns-8
 returns-8 c = voice-first _ _ _ (sym (c .before .before .before .before .block-at .ensures) ∙ c .before .before .size .given .1) (c .if2 .left)
 
--- src/lib.rt:156:1
 returns-9 : tie.Need-returns-9
 returns-9 c = end-right _ _ _ (sym (c .before .before .before .before .before .before .before .before .block-at .ensures) ∙ c .before .before .before .before .before .before .told .given .1) (c .before .before .before .if3 .left) (c .before .if4 .left) (c .if5 .left)
 
 pub advance-spec : {M : Type 1} → statement M
 advance-spec =
     tie.close
-    (tie.spec
-    block-at-requires
-    enum-known-cause
-    enum-known-unit
-    returns
-    add-next
-    enum-known-size
-    add-next-2
-    add-next-3
-    cast-more
-    add-frames
-    returns-2
-    enum-known-told
-    returns-3
-    returns-4
-    add-after
-    returns-5
-    returns-6
-    returns-7
-    returns-8
-    returns-9)
+    (tie.spec (search needs) (search needs) (search needs) returns add-next (search needs) add-next-2 add-next-3 cast-more add-frames returns-2
+    (search needs) returns-3 returns-4 add-after returns-5 returns-6 returns-7 returns-8 returns-9)

@@ -1,22 +1,16 @@
 use Rattle.recording.proofs.Frames.{odd-none, odd-one, even-none, even-one}
 use Rattle.recording.proofs.break_by.Statement.{statement}
 use Rattle.recording.proofs.break_by.Tie as tie
-use Rattle.recording.proofs.break_by.Reads as reads
-use Rattle.recording.proofs.break_by.Lts as lts
 
--- src/lib.rt:395:13
 returns : tie.Need-returns
 returns c = odd-none _ _ (c .before .if1 .taken) (c .if2 .taken)
 
--- src/lib.rt:397:9
 returns-2 : tie.Need-returns-2
 returns-2 c = odd-one _ _ (c .before .if1 .taken) (c .if2 .left)
 
--- src/lib.rt:400:9
 returns-3 : tie.Need-returns-3
 returns-3 c = even-none _ _ (c .before .if1 .left) (c .if3 .taken)
 
--- src/lib.rt:390:1
 returns-4 : tie.Need-returns-4
 returns-4 c = even-one _ _ (c .before .if1 .left) (c .if3 .left)
 

@@ -4,61 +4,32 @@ use Rattle.recording.proofs.Frames.{no-voice, first-frame, too-few-left
 use borrow.Author.Needs.{needs}
 use Rattle.recording.proofs.find.Statement.{statement}
 use Rattle.recording.proofs.find.Tie as tie
-use Rattle.recording.proofs.find.Reads as reads
-use Rattle.recording.proofs.find.Lts as lts
-use Rattle.recording.proofs.voice_size.Reads as voice-size-reads
 
--- src/lib.rt:332:13
-voice-size-requires : tie.Need-voice-size-requires
-voice-size-requires c κs = search needs
-
--- src/lib.rt:334:13
 returns : tie.Need-returns
 returns c = no-voice _ _ _ _ (c .before .before .if1 .taken) (c .before .voice-size .ensures) (c .if2 .taken)
 
--- src/lib.rt:336:21
 add-first : tie.Need-add-first
 add-first c = let t = voice-sized _ _ _ (c .before .voice-size .ensures) (c .if2 .left) in omega (arith, t .fits)
 
--- src/lib.rt:337:20
 sub-rest : tie.Need-sub-rest
 sub-rest c = let t = voice-sized _ _ _ (c .before .voice-size .ensures) (c .if2 .left) in omega (arith, t .least)
 
--- src/lib.rt:338:9
 returns-2 : tie.Need-returns-2
 returns-2 c = first-frame _ _ _ _ (c .before .before .if1 .taken) (c .before .voice-size .ensures) (c .if2 .left)
 
--- src/lib.rt:341:9
 returns-3 : tie.Need-returns-3
 returns-3 c = too-few-left _ _ _ (c .before .if1 .left) (c .if3 .taken)
 
--- src/lib.rt:344:9
 returns-4 : tie.Need-returns-4
 returns-4 c = too-short _ _ _ (c .before .before .if1 .left) (c .before .if3 .left) (omega arith)
 
--- src/lib.rt:346:8
-sub-if5 : tie.Need-sub-if5
-sub-if5 c = search needs
-
--- src/lib.rt:347:9
 returns-5 : tie.Need-returns-5
 returns-5 c = too-short _ _ _ (c .before .before .before .if1 .left) (c .before .before .if3 .left) (omega arith)
 
--- src/lib.rt:328:1
 returns-6 : tie.Need-returns-6
 returns-6 c = next-frame _ _ _ (c .before .before .before .if1 .left) (c .before .before .if3 .left) (omega arith)
 
 pub find-spec : {M : Type 1} → statement M
 find-spec =
     tie.close
-    (tie.spec
-    voice-size-requires
-    returns
-    add-first
-    sub-rest
-    returns-2
-    returns-3
-    returns-4
-    sub-if5
-    returns-5
-    returns-6)
+    (tie.spec (search needs) returns add-first sub-rest returns-2 returns-3 returns-4 (search needs) returns-5 returns-6)

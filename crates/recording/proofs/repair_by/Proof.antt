@@ -1,14 +1,10 @@
 use Rattle.recording.proofs.Frames.{repair-none, repair-one}
 use Rattle.recording.proofs.repair_by.Statement.{statement}
 use Rattle.recording.proofs.repair_by.Tie as tie
-use Rattle.recording.proofs.repair_by.Reads as reads
-use Rattle.recording.proofs.repair_by.Lts as lts
 
--- src/lib.rt:380:1
 returns : tie.Need-returns
 returns c = repair-none _ (c .if1 .taken)
 
--- src/lib.rt:380:1
 returns-2 : tie.Need-returns-2
 returns-2 c = repair-one _ (c .if1 .left)
 

@@ -1,14 +1,11 @@
 use mathlib.Core.Path.{_∙_, sym}
-use Prim.Native.Nat.{ℕ, _-_}
+use Prim.Native.Nat.{_-_}
 use native.Mathlib.Omega.{arith}
 use lib.ListN.{length}
 use borrow.Author.Needs.{needs}
 use Rattle.recording.proofs.Walks.{Walking, walking-start, walking-on, walking-done, too-long, step-further}
 use Rattle.recording.proofs.walk_through.Statement.{statement}
 use Rattle.recording.proofs.walk_through.Tie as tie
-use Rattle.recording.proofs.walk_through.Reads as reads
-use Rattle.recording.proofs.walk_through.Lts as lts
-use Rattle.recording.proofs.advance.Reads as advance-reads
 
 abbrev Inv-loop : tie.InvT-loop
 Inv-loop s w₀ w = Walking s w
@@ -16,49 +13,25 @@ Inv-loop s w₀ w = Walking s w
 abbrev μ-loop : tie.MeasureT-loop
 μ-loop s w₀ w = length s - w .at
 
--- src/lib.rt:217:9
 returns : tie.Need-returns Inv-loop μ-loop
 returns c = too-long _ (c .if1 .taken)
 
--- src/lib.rt:226:5
 loop-holds : tie.Need-loop-holds Inv-loop μ-loop
 loop-holds c = walking-start _
 
--- src/lib.rt:227:15
 advance-requires : tie.Need-advance-requires Inv-loop μ-loop
 advance-requires c κs = (c .before .if1 .left, c .loop .inv .room)
 
--- src/lib.rt:228:23
-enum-known-next : tie.Need-enum-known-next Inv-loop μ-loop
-enum-known-next c = search needs
-
--- src/lib.rt:226:5
 loop-less : tie.Need-loop-less Inv-loop μ-loop
 loop-less c = let f = step-further _ _ _ (sym (c .before .before .before .advance .ensures) ∙ c .before .next .given .1) in omega (arith, f .on, f .within)
 
--- src/lib.rt:226:5
 loop-again : tie.Need-loop-again Inv-loop μ-loop
 loop-again c = walking-on _ (c .before .before .before .before .loop .inv) (sym (c .before .before .before .advance .ensures) ∙ c .before .next .given .1)
 
--- src/lib.rt:229:25
-enum-known-answer : tie.Need-enum-known-answer Inv-loop μ-loop
-enum-known-answer c = search needs
-
--- src/lib.rt:229:36
 returns-2 : tie.Need-returns-2 Inv-loop μ-loop
 returns-2 c = walking-done _ (c .before .before .before .before .before .if1 .left) (c .before .before .before .before .loop .inv) (sym (c .before .before .before .advance .ensures) ∙ c .before .answer .given .1)
 
 pub walk-through-spec : {M : Type 1} → statement M
 walk-through-spec =
     tie.close
-    (tie.spec
-    Inv-loop
-    μ-loop
-    returns
-    loop-holds
-    advance-requires
-    enum-known-next
-    loop-less
-    loop-again
-    enum-known-answer
-    returns-2)
+    (tie.spec Inv-loop μ-loop returns loop-holds advance-requires (search needs) loop-less loop-again (search needs) returns-2)

@@ -1,0 +1,8 @@
+pub mod Puts
+pub mod Readings
+pub mod Lines
+pub mod Frames
+pub mod Short
+pub mod Listings
+pub mod Laws
+pub mod Determined

@@ -1,0 +1,77 @@
+-- What is shown of the parts of a recording: where its voice blocks stand, that their frames are all its frames, and its counts.
+use mathlib.Core.Path.{_≡_}
+use mathlib.Core.List.{List, [], _∷_, _++_}
+use Prim.Native.Nat.{ℕ, suc, _+_, _-_, _*_, _%_, _<_, _≤_}
+use lib.ListN.{length, getD, take}
+use Rattle.laws.specs.Total.{total}
+use Rattle.frame.specs.Answers.{readingOf}
+use Rattle.recording.specs.Blocks.{part}
+use Rattle.recording.specs.Frames.{afterHead, payloadsOf, voiceBlockOf, eighteens, framesOf}
+use Rattle.recording.specs.Judged.{repairBy, breakBy, judgedOf}
+use Rattle.recording.specs.declared.Cause.{Cause}
+use Rattle.recording.specs.declared.Cause.the-variants.{EndMissing}
+use Rattle.recording.specs.declared.Summary.{Summary}
+use Rattle.recording.specs.declared.Judged.the-variants.{Sound, Refused}
+
+-- how many bytes the blocks of these payloads take: six for each header
+unfoldable pub laid : List (List ℕ) → ℕ
+laid [] = 0
+laid (p ∷ ps) = 6 + length p + laid ps
+
+-- where the k-th payload begins: after the head, the voice blocks before it and its own header
+abbrev pub placeOf : List (List ℕ) → ℕ → ℕ
+placeOf ps k = afterHead + laid (take k ps) + 6
+
+-- the k-th voice block of a recording is a part of its bytes, of whole frames; it ends before the next begins, and ten bytes for the
+-- end block come after it
+pub record Stands (s : List ℕ) (k : ℕ) : Type 0 where
+  pub holds : voiceBlockOf s k ≡ part s (placeOf (payloadsOf s) k) (length (voiceBlockOf s k))
+  pub positive : 0 < length (voiceBlockOf s k)
+  pub whole : length (voiceBlockOf s k) % 18 ≡ 0
+  pub apart : placeOf (payloadsOf s) k + length (voiceBlockOf s k) + 6 ≡ placeOf (payloadsOf s) (suc k)
+  pub within : placeOf (payloadsOf s) k + length (voiceBlockOf s k) + 10 ≤ length s
+
+abbrev pub VoiceBlocksStand : Type 0
+VoiceBlocksStand = (s : List ℕ) (k : ℕ) → k < length (payloadsOf s) → Stands s k
+
+-- the frames of the voice blocks one after the other are all the frames: the payloads put together and cut
+unfoldable pub joined : List (List ℕ) → List ℕ
+joined [] = []
+joined (p ∷ ps) = p ++ joined ps
+
+abbrev pub FramesAreAll : Type 0
+FramesAreAll = (s : List ℕ) → framesOf s ≡ eighteens (joined (payloadsOf s))
+
+-- each is eighteen bytes, and all of them are within the bytes
+abbrev pub FramesAreLong : Type 0
+FramesAreLong = (s : List ℕ) (k : ℕ) → k < length (framesOf s) → length (getD (framesOf s) k []) ≡ 18
+
+abbrev pub FramesFit : Type 0
+FramesFit = (s : List ℕ) → 18 * length (framesOf s) ≤ length s
+
+-- the end block's number is their count
+abbrev pub EndCounts : Type 0
+EndCounts = (s : List ℕ) (x : Summary) → judgedOf s ≡ Sound x → x .frames ≡ length (framesOf s)
+
+-- frame n, counted from 1
+abbrev pub frameAt : List ℕ → ℕ → List ℕ
+frameAt s n = getD (framesOf s) (n - 1) []
+
+-- the counts are sums over all frame numbers, 1 for a repaired frame or for a break
+abbrev pub RepairsCounted : Type 0
+RepairsCounted =
+    (s : List ℕ) (x : Summary) → judgedOf s ≡ Sound x
+    → x .repaired ≡ total (λ n. repairBy (readingOf (frameAt s n) .number)) (length (framesOf s))
+
+abbrev pub BreaksCounted : Type 0
+BreaksCounted =
+    (s : List ℕ) (x : Summary) → judgedOf s ≡ Sound x
+    → x .breaks ≡ total (λ n. breakBy n (readingOf (frameAt s n) .indices .sy)) (length (framesOf s))
+
+-- a refused recording has no voice block, also none before the damage, and no frame
+abbrev pub RefusedHasNone : Type 0
+RefusedHasNone = (s : List ℕ) (c : Cause) → judgedOf s ≡ Refused c → ((k : ℕ) → voiceBlockOf s k ≡ []) × (framesOf s ≡ [])
+
+-- an empty recording is refused 8 at 0
+abbrev pub EmptyRefused : Type 0
+EmptyRefused = judgedOf [] ≡ Refused (EndMissing 0)

@@ -1,0 +1,93 @@
+-- When a recording is refused, and by which refusal (document 01, "Refusal numbers"): each is given exactly when its condition is
+-- met and none earlier is.
+use mathlib.Core.Path.{_≡_}
+use mathlib.Core.Bool.{Bool, true, false, not, cond}
+use mathlib.Core.List.{List}
+use mathlib.Core.Logic.{_↔_}
+use Prim.Native.Nat.{ℕ, _+_, _%_, _<_, _≤_}
+use lib.Dec.{eqb, ltb}
+use lib.ListN.{length}
+use Rattle.laws.specs.Table.{both}
+use Rattle.recording.specs.Blocks.{wordAt, sizeAt, kindAt}
+use Rattle.recording.specs.Walk.{longest, pastHead, pastVoice, atStart}
+use Rattle.recording.specs.Judged.{judgedOf}
+use Rattle.recording.specs.Refusals.{refusalOf}
+use Rattle.recording.specs.declared.Cause.{Cause}
+use Rattle.recording.specs.declared.Cause.the-variants.{TooLong, HeaderCut, PastEnd, WrongSize, UnknownKind, OutOfTurn, EndMissing, WrongCount, Extra}
+use Rattle.recording.specs.declared.Walk.{Walk}
+use Rattle.recording.specs.declared.Summary.{Summary}
+use Rattle.recording.specs.declared.Judged.the-variants.{Sound, Refused}
+
+-- a payload's size is right for its kind; kinds other than 1 to 3 have no wrong size
+unfoldable pub rightSize : ℕ → ℕ → Bool
+rightSize kind size =
+    cond (eqb kind 1) (eqb size 8) (cond (eqb kind 2) (both (ltb 0 size) (eqb (size % 18) 0)) (cond (eqb kind 3) (eqb size 4) true))
+
+unfoldable pub knownKind : ℕ → Bool
+knownKind kind = cond (eqb kind 1) true (cond (eqb kind 2) true (eqb kind 3))
+
+-- one head, one or more voice blocks, one end: a block is in its turn
+unfoldable pub inTurn : Walk → ℕ → Bool
+inTurn w kind = cond (eqb kind 1) (not (w .headed)) (cond (eqb kind 2) (w .headed) (cond (eqb kind 3) (not (eqb (w .frames) 0)) true))
+
+-- the condition of each refusal at the block that a walk has come to, with the place that is told
+abbrev pub Condition : List ℕ → Walk → Cause → Type 0
+Condition s w TooLong = longest < length s
+Condition s w (HeaderCut p) = (p ≡ w .at) × (w .at < length s) × (length s < w .at + 6)
+Condition s w (PastEnd p) = (p ≡ w .at) × (w .at + 6 ≤ length s) × (length s < w .at + 6 + sizeAt s (w .at))
+Condition s w (WrongSize p) = (p ≡ w .at) × (w .at + 6 ≤ length s) × (rightSize (kindAt s (w .at)) (sizeAt s (w .at)) ≡ false)
+Condition s w (UnknownKind p) = (p ≡ w .at) × (w .at + 6 ≤ length s) × (knownKind (kindAt s (w .at)) ≡ false)
+Condition s w (OutOfTurn p) = (p ≡ w .at) × (w .at + 6 ≤ length s) × (inTurn w (kindAt s (w .at)) ≡ false)
+Condition s w (EndMissing p) = (p ≡ length s) × (w .at ≡ length s)
+Condition s w (WrongCount p) = (p ≡ w .at) × (w .at + 6 ≤ length s) × (kindAt s (w .at) ≡ 3) × (wordAt s (w .at + 6) ≡ w .frames → ⊥)
+Condition s w (Extra p) = (p ≡ w .at + 10) × (kindAt s (w .at) ≡ 3) × (w .at + 10 < length s)
+
+-- the order in which they are tried at one block: 1, then 7 before 8, a wrong end number before bytes after the end
+abbrev pub order : Cause → ℕ
+order TooLong = 0
+order (HeaderCut p) = 1
+order (PastEnd p) = 2
+order (WrongSize p) = 3
+order (UnknownKind p) = 4
+order (OutOfTurn p) = 5
+order (EndMissing p) = 6
+order (WrongCount p) = 7
+order (Extra p) = 8
+
+-- lowest number first
+abbrev pub LowestFirst : Type 0
+LowestFirst = (c d : Cause) → order c ≤ order d → refusalOf c ≤ refusalOf d
+
+-- no refusal's condition is met; none is that comes before n
+abbrev pub Clean : List ℕ → Walk → Type 0
+Clean s w = (c : Cause) → Condition s w c → ⊥
+
+abbrev pub ClearBefore : List ℕ → Walk → ℕ → Type 0
+ClearBefore s w n = (c : Cause) → order c < n → Condition s w c → ⊥
+
+-- block by block: where a walk comes that passes blocks at which no refusal's condition is met
+pub data Reached (s : List ℕ) : Walk → Type 0 where
+  at-first : Reached s atStart
+  past-head : (w : Walk) → Reached s w → Clean s w → kindAt s (w .at) ≡ 1
+      → Reached s (pastHead w (wordAt s (w .at + 6)) (wordAt s (w .at + 10)))
+  past-voice : (w : Walk) → Reached s w → Clean s w → kindAt s (w .at) ≡ 2 → Reached s (pastVoice w (sizeAt s (w .at)))
+
+-- a refusal's condition is met at a block that is reached, and none earlier is
+pub record Given (s : List ℕ) (c : Cause) : Type 0 where
+  pub walk : Walk
+  pub reached : Reached s walk
+  pub here : Condition s walk c
+  pub first : ClearBefore s walk (order c)
+
+-- an end block is reached, and no refusal's condition is met there
+pub record Accepted (s : List ℕ) : Type 0 where
+  pub walk : Walk
+  pub reached : Reached s walk
+  pub clean : Clean s walk
+  pub end : kindAt s (walk .at) ≡ 3
+
+abbrev pub RefusedExactly : Type 0
+RefusedExactly = (s : List ℕ) (c : Cause) → (judgedOf s ≡ Refused c) ↔ Given s c
+
+abbrev pub SoundExactly : Type 0
+SoundExactly = (s : List ℕ) → ((x : Summary) × (judgedOf s ≡ Sound x)) ↔ Accepted s
