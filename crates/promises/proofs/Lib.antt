@@ -1,3 +1,8 @@
 pub mod Frames
 pub mod Functions
 pub mod Worked
+pub mod Whole
+pub mod Rule
+pub mod Parts
+pub mod Running
+pub mod Made

@@ -4,8 +4,3 @@ pub mod Voices
 pub mod Frames
 pub mod Passes
 pub mod Determined
-pub mod Whole
-pub mod Rule
-pub mod Parts
-pub mod Running
-pub mod Made

@@ -5,7 +5,3 @@ pub mod Frames
 pub mod Judged
 pub mod Pass
 pub mod Steps
-pub mod Rule
-pub mod Parts
-pub mod Running
-pub mod Made

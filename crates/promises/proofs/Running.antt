@@ -7,10 +7,10 @@ use native.Mathlib.Omega.{arith}
 use lib.ListN.{getD, take}
 use lib.Seq.{take-take, getD-take}
 use Rattle.values.specs.Values.{freshState}
 use Rattle.recording.specs.Frames.{framesOf}
 use Rattle.recording.specs.Pass.{heardIn, stateThrough}
-use Rattle.recording.specs.Running.{StateRunsOn, NothingBeyond, PassHears, SoFarAlone}
+use Rattle.promises.specs.Running.{StateRunsOn, NothingBeyond, PassHears, SoFarAlone}
 use Rattle.recording.proofs.Passes as passes
 
 pub state-runs-on : StateRunsOn
 state-runs-on = passes.heard-there
