@@ -6,3 +6,4 @@ pub mod Rule
 pub mod Parts
 pub mod Running
 pub mod Made
+pub mod Demands

@@ -5,3 +5,4 @@ pub mod Rule
 pub mod Parts
 pub mod Running
 pub mod Made
+pub mod Demands

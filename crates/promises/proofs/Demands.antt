@@ -1,0 +1,57 @@
+-- Every statement under the three demands has its proof.
+-- Assumes nothing.
+use Rattle.promises.specs.Demands.{DemandOne, DemandTwo, DemandThree}
+use Rattle.promises.proofs.Frames as frames
+use Rattle.promises.proofs.Functions as functions
+use Rattle.promises.proofs.Worked as worked
+use Rattle.promises.proofs.Rule as rule
+use Rattle.promises.proofs.Made as made
+use Rattle.promises.proofs.Parts as parts
+use Rattle.promises.proofs.Running as running
+
+pub demand-one : DemandOne
+demand-one =
+    record {
+      every-frame-read = frames.every-frame-read;
+      refused-exactly = rule.refused-exactly;
+      sound-exactly = rule.sound-exactly;
+      lowest-first = rule.lowest-first;
+      refused-has-none = parts.refused-has-none;
+      empty-refused = parts.empty-refused;
+    }
+
+pub demand-two : DemandTwo
+demand-two =
+    record {
+      reads-back = frames.reads-back;
+      write-then-read = functions.write-then-read;
+      same-bits = frames.same-bits-back;
+      read-then-write = functions.read-then-write;
+      one-frame = frames.one-frame;
+      no-two-frames = functions.no-two-frames;
+      sixteen-frames = frames.sixteen-frames;
+      all-twelve = worked.all-twelve;
+      made-is-sound = made.made-is-sound;
+      sound-is-made = made.sound-is-made;
+      no-two = made.no-two;
+      voice-blocks-stand = parts.voice-blocks-stand;
+      frames-are-all = parts.frames-are-all;
+      end-counts = parts.end-counts;
+      repairs-counted = parts.repairs-counted;
+      breaks-counted = parts.breaks-counted;
+      state-runs-on = running.state-runs-on;
+      nothing-beyond = running.nothing-beyond;
+      pass-hears = running.pass-hears;
+      so-far-alone = running.so-far-alone;
+    }
+
+pub demand-three : DemandThree
+demand-three =
+    record {
+      damage-alone = frames.damage-alone;
+      repair-by-damage = functions.repair-by-damage;
+      one-mended = frames.one-mended;
+      one-flip = functions.one-flip;
+      two-reported = frames.two-reported;
+      two-flips = functions.two-flips;
+    }

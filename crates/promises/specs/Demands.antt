@@ -1,0 +1,60 @@
+-- The three demands, in the words of the person this is built for, and under each the statements that meet it. A reviewer starts here:
+-- each name below is a statement of the file beside it, and proofs/Demands.antt holds a proof of every one.
+use Rattle.promises.specs.Frames.{ReadsBack, SameBits, DamageAlone, OneMended, TwoReported, EveryFrameRead, OneFrame, SixteenFrames}
+use Rattle.promises.specs.Functions.{WriteThenRead, ReadThenWrite, RepairByDamage, OneFlip, TwoFlips, NoTwoFrames}
+use Rattle.promises.specs.Rule.{LowestFirst, RefusedExactly, SoundExactly}
+use Rattle.promises.specs.Made.{MadeIsSound, SoundIsMade, NoTwo}
+use Rattle.promises.specs.Parts.{VoiceBlocksStand, FramesAreAll, EndCounts, RepairsCounted, BreaksCounted, RefusedHasNone, EmptyRefused}
+use Rattle.promises.specs.Running.{StateRunsOn, NothingBeyond, PassHears, SoFarAlone}
+use Rattle.promises.specs.Worked.{AllTwelve}
+
+-- "Every frame, record or recording, however damaged, gets an answer and the call ends. A frame that isn't eighteen bytes, an index too
+-- large for its field, a record to write whose line spectral parameters fall, a delay that can't be sent, a set expansion bit in a record
+-- to write or to hear, or a broken recording is refused by its number, no caller has to look first, and a refusal writes nothing into any
+-- buffer lent to us."
+--
+-- That each call ends, and what it answers and leaves on every input, is the contract of each function, none of which has a `requires`.
+-- Of recordings it is said here when each refusal is given.
+pub record DemandOne : Type 0 where
+  pub every-frame-read : EveryFrameRead
+  pub refused-exactly : RefusedExactly
+  pub sound-exactly : SoundExactly
+  pub lowest-first : LowestFirst
+  pub refused-has-none : RefusedHasNone
+  pub empty-refused : EmptyRefused
+
+-- "Reading and writing are those of Federal Standard 1016: the 144 places, the parity, the gains, delays, averaged parameters and 512
+-- ternary codes. A record the writer accepts reads back equal. A frame that is read writes back to the same bits exactly when its parity
+-- was clean, its expansion bit 0 and its parameters in order."
+pub record DemandTwo : Type 0 where
+  pub reads-back : ReadsBack
+  pub write-then-read : WriteThenRead
+  pub same-bits : SameBits
+  pub read-then-write : ReadThenWrite
+  pub one-frame : OneFrame
+  pub no-two-frames : NoTwoFrames
+  pub sixteen-frames : SixteenFrames
+  pub all-twelve : AllTwelve
+  pub made-is-sound : MadeIsSound
+  pub sound-is-made : SoundIsMade
+  pub no-two : NoTwo
+  pub voice-blocks-stand : VoiceBlocksStand
+  pub frames-are-all : FramesAreAll
+  pub end-counts : EndCounts
+  pub repairs-counted : RepairsCounted
+  pub breaks-counted : BreaksCounted
+  pub state-runs-on : StateRunsOn
+  pub nothing-beyond : NothingBeyond
+  pub pass-hears : PassHears
+  pub so-far-alone : SoFarAlone
+
+-- "Take a frame our writer made and flip any set of its bits. The indices then read are the written ones, with exactly those bits
+-- reversed that come out as 1 when the flips alone are read as a frame; the correction number reported is the one for the flips alone. If
+-- no more than one of the fifteen guarded places was flipped, none of the eleven guarded data bits differs. Two are always reported."
+pub record DemandThree : Type 0 where
+  pub damage-alone : DamageAlone
+  pub repair-by-damage : RepairByDamage
+  pub one-mended : OneMended
+  pub one-flip : OneFlip
+  pub two-reported : TwoReported
+  pub two-flips : TwoFlips
