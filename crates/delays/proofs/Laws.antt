@@ -69,7 +69,7 @@ window-end rank h l =
     (ap twelfthsOf e, ap twelfthsOf f)
 
 -- the rank after another is in its window, as far above the base as the code says
-after-in : (rank step : ℕ) → inWindow rank (afterOf rank step) ≡ true
+pub after-in : (rank step : ℕ) → inWindow rank (afterOf rank step) ≡ true
 after-in rank step =
     simp (le-leb (baseOf rank) (afterOf rank step) (omega arith), le-leb (afterOf rank step) (baseOf rank + 63) (omega arith))
 
@@ -122,7 +122,7 @@ codes-whole a b c d ha hb hc hd =
     codes-back a b c d ∙ simp (ea, eb, ec, ed)
 
 -- a rank in the window comes back from its distance to the base
-window-step : (before rank : ℕ) → inWindow before rank ≡ true → (rank - baseOf before < 64) × (afterOf before (rank - baseOf before) ≡ rank)
+pub window-step : (before rank : ℕ) → inWindow before rank ≡ true → (rank - baseOf before < 64) × (afterOf before (rank - baseOf before) ≡ rank)
 window-step before rank w =
     let t : T (inWindow before rank) = subst T (sym w) tt in
     let l : baseOf before ≤ rank = leb→le (baseOf before) rank (both-left (leb (baseOf before) rank) (leb rank (baseOf before + 63)) t) in

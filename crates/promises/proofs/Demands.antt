@@ -4,6 +4,9 @@ use Rattle.promises.specs.Demands.{DemandOne, DemandTwo, DemandThree}
 use Rattle.promises.proofs.Frames as frames
 use Rattle.promises.proofs.Functions as functions
 use Rattle.promises.proofs.Worked as worked
+use Rattle.promises.proofs.Refused as refused
+use Rattle.promises.proofs.Repairs as repairs
+use Rattle.promises.proofs.Values as values
 use Rattle.promises.proofs.Rule as rule
 use Rattle.promises.proofs.Made as made
 use Rattle.promises.proofs.Parts as parts
@@ -13,6 +16,17 @@ pub demand-one : DemandOne
 demand-one =
     record {
       every-frame-read = frames.every-frame-read;
+      reader-refuses = refused.reader-refuses;
+      writer-refuses = refused.writer-refuses;
+      hearing-refuses = refused.hearing-refuses;
+      delays-refuse = refused.delays-refuse;
+      code-refuses = refused.code-refuses;
+      gain-refuses = refused.gain-refuses;
+      refused-frame-stays = refused.refused-frame-stays;
+      refused-state-stays = refused.refused-state-stays;
+      refused-code-stays = refused.refused-code-stays;
+      refused-read-stays = refused.refused-read-stays;
+      refused-write-stays = refused.refused-write-stays;
       refused-exactly = rule.refused-exactly;
       sound-exactly = rule.sound-exactly;
       lowest-first = rule.lowest-first;
@@ -30,6 +44,20 @@ demand-two =
       one-frame = frames.one-frame;
       no-two-frames = functions.no-two-frames;
       sixteen-frames = frames.sixteen-frames;
+      nearest-entry = values.nearest-entry;
+      gains-come-back = values.gains-come-back;
+      cg-mirrored = values.cg-is-mirrored;
+      gains-heard = values.gains-heard;
+      delays-rise = values.delays-rise;
+      each-byte-once = values.each-byte-once;
+      delays-come-back = values.delays-come-back;
+      delays-heard = values.delays-heard;
+      averaged = values.averaged;
+      first-averaged = values.first-averaged;
+      state-holds = values.state-holds;
+      mark-is-lowest = values.mark-is-lowest;
+      ternary = values.ternary;
+      codes-overlap = values.codes-overlap;
       all-twelve = worked.all-twelve;
       made-is-sound = made.made-is-sound;
       sound-is-made = made.sound-is-made;
@@ -54,4 +82,9 @@ demand-three =
       one-flip = functions.one-flip;
       two-reported = frames.two-reported;
       two-flips = functions.two-flips;
+      clean-changes-nothing = repairs.clean-changes-nothing;
+      parity-hit-changes-nothing = repairs.parity-hit-changes-nothing;
+      data-hit-inverts-one = repairs.data-hit-inverts-one;
+      unguarded-unseen = repairs.unguarded-unseen;
+      three-unseen = repairs.three-unseen;
     }

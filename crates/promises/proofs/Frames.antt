@@ -90,14 +90,14 @@ module _ (s : List ℕ) (long : length s ≡ 18) where
   read-indices : readingOf s .indices ≡ recordOf (mended (bitAt s))
   read-indices = ap (λ (x : Reading). x .indices) (read-eighteen s long)
 
-  read-number : readingOf s .number ≡ number (bitAt s)
+  pub read-number : readingOf s .number ≡ number (bitAt s)
   read-number = ap (λ (x : Reading). x .number) (read-eighteen s long)
 
   read-mark : readingOf s .mark ≡ recordMark (recordOf (mended (bitAt s)))
   read-mark = ap (λ (x : Reading). x .mark) (read-eighteen s long)
 
   -- each bit read is the mended bit at its place
-  read-bit : (f i : ℕ) → 1 ≤ f → f ≤ 28 → i < widthOf f → readBit s f i ≡ mended (bitAt s) (placeOf f i)
+  pub read-bit : (f i : ℕ) → 1 ≤ f → f ≤ 28 → i < widthOf f → readBit s f i ≡ mended (bitAt s) (placeOf f i)
   read-bit f i a l w =
       ap (λ (r : Record). bit (indexOf r f) i) read-indices
       ∙ ap (λ (x : ℕ). bit x i) (index-of-record (mended (bitAt s)) f a l)
@@ -200,13 +200,13 @@ module _ (w : List ℕ) (made : Made w) where
 
   module _ (e : List ℕ) (full : Eighteen e) where
     -- the repair is that of the flips alone
-    flips-number : readingOf (flipped w e) .number ≡ readingOf e .number
+    pub flips-number : readingOf (flipped w e) .number ≡ readingOf e .number
     flips-number =
         read-number (flipped w e) (flipped-long w e)
         ∙ number-over (bitAt w) (bitAt e) (bitAt (flipped w e)) (flipped-bit w e) made-clean
         ∙ sym (read-number e (full .long))
 
-    flips-bit : (f i : ℕ) → 1 ≤ f → f ≤ 28 → i < widthOf f → readBit (flipped w e) f i ≡ (readBit w f i + readBit e f i) % 2
+    pub flips-bit : (f i : ℕ) → 1 ≤ f → f ≤ 28 → i < widthOf f → readBit (flipped w e) f i ≡ (readBit w f i + readBit e f i) % 2
     flips-bit f i a l h =
         read-bit (flipped w e) (flipped-long w e) f i a l h
         ∙ mended-over (bitAt w) (bitAt e) (bitAt (flipped w e)) (flipped-bit w e) made-clean (placeOf f i) first last

@@ -2,6 +2,9 @@
 -- each name below is a statement of the file beside it, and proofs/Demands.antt holds a proof of every one.
 use Rattle.promises.specs.Frames.{ReadsBack, SameBits, DamageAlone, OneMended, TwoReported, EveryFrameRead, OneFrame, SixteenFrames}
 use Rattle.promises.specs.Functions.{WriteThenRead, ReadThenWrite, RepairByDamage, OneFlip, TwoFlips, NoTwoFrames}
+use Rattle.promises.specs.Refused.{ReaderRefuses, WriterRefuses, RefusedFrameStays, HearingRefuses, RefusedStateStays, DelaysRefuse, CodeRefuses, RefusedCodeStays, GainRefuses, RefusedReadStays, RefusedWriteStays}
+use Rattle.promises.specs.Repairs.{CleanChangesNothing, ParityHitChangesNothing, DataHitInvertsOne, UnguardedUnseen, ThreeUnseen}
+use Rattle.promises.specs.Values.{NearestEntry, GainsComeBack, CgMirrored, DelaysRise, EachByteOnce, DelaysComeBack, GainsHeard, DelaysHeard, Averaged, FirstAveraged, StateHolds, MarkIsLowest, Ternary, CodesOverlap}
 use Rattle.promises.specs.Rule.{LowestFirst, RefusedExactly, SoundExactly}
 use Rattle.promises.specs.Made.{MadeIsSound, SoundIsMade, NoTwo}
 use Rattle.promises.specs.Parts.{VoiceBlocksStand, FramesAreAll, EndCounts, RepairsCounted, BreaksCounted, RefusedHasNone, EmptyRefused}
@@ -14,9 +17,23 @@ use Rattle.promises.specs.Worked.{AllTwelve}
 -- buffer lent to us."
 --
 -- That each call ends, and what it answers and leaves on every input, is the contract of each function, none of which has a `requires`.
--- Of recordings it is said here when each refusal is given.
+-- Here it is said when each refusal is given, and that it writes nothing.
 pub record DemandOne : Type 0 where
+  -- frames, records, delays, codes
   pub every-frame-read : EveryFrameRead
+  pub reader-refuses : ReaderRefuses
+  pub writer-refuses : WriterRefuses
+  pub hearing-refuses : HearingRefuses
+  pub delays-refuse : DelaysRefuse
+  pub code-refuses : CodeRefuses
+  pub gain-refuses : GainRefuses
+  -- nothing is written, and the state stays
+  pub refused-frame-stays : RefusedFrameStays
+  pub refused-state-stays : RefusedStateStays
+  pub refused-code-stays : RefusedCodeStays
+  pub refused-read-stays : RefusedReadStays
+  pub refused-write-stays : RefusedWriteStays
+  -- recordings
   pub refused-exactly : RefusedExactly
   pub sound-exactly : SoundExactly
   pub lowest-first : LowestFirst
@@ -27,6 +44,7 @@ pub record DemandOne : Type 0 where
 -- ternary codes. A record the writer accepts reads back equal. A frame that is read writes back to the same bits exactly when its parity
 -- was clean, its expansion bit 0 and its parameters in order."
 pub record DemandTwo : Type 0 where
+  -- frames
   pub reads-back : ReadsBack
   pub write-then-read : WriteThenRead
   pub same-bits : SameBits
@@ -34,7 +52,24 @@ pub record DemandTwo : Type 0 where
   pub one-frame : OneFrame
   pub no-two-frames : NoTwoFrames
   pub sixteen-frames : SixteenFrames
+  -- gains, delays, averaged parameters, ternary codes
+  pub nearest-entry : NearestEntry
+  pub gains-come-back : GainsComeBack
+  pub cg-mirrored : CgMirrored
+  pub gains-heard : GainsHeard
+  pub delays-rise : DelaysRise
+  pub each-byte-once : EachByteOnce
+  pub delays-come-back : DelaysComeBack
+  pub delays-heard : DelaysHeard
+  pub averaged : Averaged
+  pub first-averaged : FirstAveraged
+  pub state-holds : StateHolds
+  pub mark-is-lowest : MarkIsLowest
+  pub ternary : Ternary
+  pub codes-overlap : CodesOverlap
+  -- the worked numbers
   pub all-twelve : AllTwelve
+  -- recordings
   pub made-is-sound : MadeIsSound
   pub sound-is-made : SoundIsMade
   pub no-two : NoTwo
@@ -52,9 +87,16 @@ pub record DemandTwo : Type 0 where
 -- reversed that come out as 1 when the flips alone are read as a frame; the correction number reported is the one for the flips alone. If
 -- no more than one of the fifteen guarded places was flipped, none of the eleven guarded data bits differs. Two are always reported."
 pub record DemandThree : Type 0 where
+  -- the flips alone
   pub damage-alone : DamageAlone
   pub repair-by-damage : RepairByDamage
   pub one-mended : OneMended
   pub one-flip : OneFlip
   pub two-reported : TwoReported
   pub two-flips : TwoFlips
+  -- what a number does to what is read, and what no number shows
+  pub clean-changes-nothing : CleanChangesNothing
+  pub parity-hit-changes-nothing : ParityHitChangesNothing
+  pub data-hit-inverts-one : DataHitInvertsOne
+  pub unguarded-unseen : UnguardedUnseen
+  pub three-unseen : ThreeUnseen

@@ -1,6 +1,9 @@
 pub mod Frames
 pub mod Functions
 pub mod Worked
+pub mod Refused
+pub mod Values
+pub mod Repairs
 pub mod Rule
 pub mod Parts
 pub mod Running

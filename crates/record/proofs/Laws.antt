@@ -9,7 +9,7 @@ use lib.Seq.{ext-getD}
 use Rattle.laws.specs.Tabulate.{tabulate}
 use Rattle.laws.proofs.Tabulate.{length-tabulate, getD-tabulate}
 use borrow.Author.Tests.{leb-true, leb-false, le-leb, lt-leb}
-use Rattle.laws.proofs.Lowest.{lowest-zero, lowest-found, lowest-none}
+use Rattle.laws.proofs.Lowest.{lowest-zero, lowest-found, lowest-none, lowest-at}
 use Rattle.record.specs.Fields.{over, tooLarge, indexOf, widthOf}
 use Rattle.record.specs.declared.Record.{Record}
 
@@ -32,6 +32,12 @@ module _ (r : Record) where
   lowest-too-large j e a =
       let f = lowest-found (over r) 28 j e a in
       (f .0, leb-true (2 ^ widthOf j) (indexOf r j) (f .1), λ i b c. leb-false (2 ^ widthOf i) (indexOf r i) (f .2 i b c))
+
+  pub too-large-at : (j : ℕ) → 1 ≤ j → j ≤ 28 → 2 ^ widthOf j ≤ indexOf r j
+      → ((i : ℕ) → 1 ≤ i → i < j → indexOf r i < 2 ^ widthOf i) → tooLarge r ≡ j
+  unfolding tooLarge
+  too-large-at j a b here lower =
+      lowest-at (over r) 28 j a b (λ i p q. lt-leb (2 ^ widthOf i) (indexOf r i) (lower i p q)) (le-leb (2 ^ widthOf j) (indexOf r j) here)
 
   -- what stands in a field, by the list that holds it
   pub index-parameter : (k : ℕ) → k < 10 → indexOf r (k + 1) ≡ getD (r .lsp) k 0

@@ -1,0 +1,97 @@
+-- The second demand for what indices mean: "the gains, delays, averaged parameters and 512 ternary codes", over the definitions that the
+-- contracts cite. That the tables are the printed ones is what EVIDENCE compares.
+use mathlib.Core.Path.{_≡_}
+use mathlib.Core.Bool.{true, false}
+use mathlib.Core.List.{List, [], _∷_}
+use mathlib.Core.Logic.{_⊎_}
+use Prim.Native.Nat.{ℕ, _+_, _-_, _*_, _<_, _≤_}
+use lib.IntN.{ℤ, pos, negℤ}
+use lib.ListN.{getD}
+use Rattle.record.specs.declared.Record.{Record}
+use Rattle.gains.specs.Tables.{cgTable, pgTable}
+use Rattle.gains.specs.Nearest.{nearestOf, Nearest}
+use Rattle.delays.specs.Table.{twelfthsOf, byteOf, rankOf}
+use Rattle.delays.specs.Codes.{heardOf, codedOf}
+use Rattle.delays.specs.declared.Coded.the-variants.{Codes}
+use Rattle.lsp.specs.Table.{lsp, hertzOf}
+use Rattle.lsp.specs.Order.{markOf, InOrder}
+use Rattle.lsp.specs.Average.{subframe}
+use Rattle.codebook.specs.Code.{codeOf}
+use Rattle.values.specs.Values.{cgIndex, pgIndex, pdIndex, valuesOf, freshState}
+use Rattle.values.specs.declared.State.{State}
+use Rattle.values.specs.declared.Outcome.the-variants.{Heard}
+
+-- Gains: "the nearest table entry; on a tie the lower index", for any whole number; and an entry's nearest is itself.
+unfoldable pub NearestEntry : Type 0
+NearestEntry = (x : ℤ) → Nearest cgTable x (nearestOf cgTable x) × Nearest pgTable x (nearestOf pgTable x)
+
+unfoldable pub GainsComeBack : Type 0
+GainsComeBack = (i : ℕ) → i ≤ 31 → (nearestOf cgTable (getD cgTable i (pos 0)) ≡ i) × (nearestOf pgTable (getD pgTable i (pos 0)) ≡ i)
+
+-- "entry i is the negative of entry 31-i"
+unfoldable pub CgMirrored : Type 0
+CgMirrored = (i : ℕ) → i ≤ 31 → getD cgTable i (pos 0) ≡ negℤ (getD cgTable (31 - i) (pos 0))
+
+-- Delays: they rise with their rank; "the 256 printed codes use each byte once"; codes that are heard as delays are those delays' codes.
+unfoldable pub DelaysRise : Type 0
+DelaysRise = (low high : ℕ) → low < high → high < 256 → twelfthsOf low < twelfthsOf high
+
+unfoldable pub EachByteOnce : Type 0
+EachByteOnce =
+    ((rank : ℕ) → rank < 256 → (byteOf rank < 256) × (rankOf (byteOf rank) ≡ rank))
+    × ((byte : ℕ) → byte < 256 → (rankOf byte < 256) × (byteOf (rankOf byte) ≡ byte))
+
+unfoldable pub DelaysComeBack : Type 0
+DelaysComeBack =
+    (i j k l : ℕ) → i < 256 → j < 64 → k < 256 → l < 64 → codedOf (heardOf (i ∷ j ∷ k ∷ l ∷ [])) ≡ Codes i j k l
+
+-- Of a record that is heard, in subframe n: the gains of its indices, and the delays of its four PD whatever the state.
+pub record Subframe (r : Record) (before : State) (n : ℕ) : Type 0 where
+  pub cg : getD (valuesOf r before .cg) (n - 1) (pos 0) ≡ getD cgTable (cgIndex r n) (pos 0)
+  pub pg : getD (valuesOf r before .pg) (n - 1) (pos 0) ≡ getD pgTable (pgIndex r n) (pos 0)
+
+unfoldable pub GainsHeard : Type 0
+GainsHeard = (r : Record) (before : State) → valuesOf r before .outcome ≡ Heard → (n : ℕ) → 1 ≤ n → n ≤ 4 → Subframe r before n
+
+unfoldable pub DelaysHeard : Type 0
+DelaysHeard =
+    (r : Record) (before : State) → valuesOf r before .outcome ≡ Heard
+    → valuesOf r before .delays ≡ heardOf (pdIndex r 1 ∷ pdIndex r 2 ∷ pdIndex r 3 ∷ pdIndex r 4 ∷ [])
+
+-- "in subframe n, (9-2n) times the previous frame's value plus (2n-1) times the present one's"; "a fresh state takes the first frame's
+-- own values", and then each average is eight times the value.
+abbrev pub average : Record → State → ℕ → ℕ → ℕ
+average r before n j = getD (valuesOf r before .averages) (10 * (n - 1) + (j - 1)) 0
+
+unfoldable pub Averaged : Type 0
+Averaged =
+    (r : Record) (before : State) → valuesOf r before .outcome ≡ Heard → before .heard ≡ true
+    → (n j : ℕ) → 1 ≤ n → n ≤ 4 → 1 ≤ j → j ≤ 10
+    → average r before n j ≡ (9 - 2 * n) * lsp (before .hz) j + (2 * n - 1) * lsp (hertzOf (r .lsp)) j
+
+unfoldable pub FirstAveraged : Type 0
+FirstAveraged =
+    (r : Record) → valuesOf r freshState .outcome ≡ Heard
+    → (n j : ℕ) → 1 ≤ n → n ≤ 4 → 1 ≤ j → j ≤ 10 → average r freshState n j ≡ 8 * lsp (hertzOf (r .lsp)) j
+
+-- the state after holds this frame's LSPs
+unfoldable pub StateHolds : Type 0
+StateHolds =
+    (r : Record) (before : State) → valuesOf r before .outcome ≡ Heard
+    → valuesOf r before .state ≡ record { heard = true; hz = hertzOf (r .lsp) }
+
+-- "The order mark of a record is the lowest j for which LSP j+1 is below LSP j, or 0 if there is none. Equal is in order."
+unfoldable pub MarkIsLowest : Type 0
+MarkIsLowest =
+    (hz : List ℕ)
+    → (markOf hz ≡ 0 → InOrder hz)
+    × ((j : ℕ) → markOf hz ≡ j → 1 ≤ j → (j ≤ 9) × (lsp hz (j + 1) < lsp hz j) × ((m : ℕ) → 1 ≤ m → m < j → lsp hz m ≤ lsp hz (m + 1)))
+
+-- Codes: "each element is -1, 0 or 1"; "element k+2 of code n is element k of code n-1, for n from 1 to 511 and k to 57"
+unfoldable pub Ternary : Type 0
+Ternary =
+    (n k : ℕ) → k < 60
+    → (getD (codeOf n) k (pos 0) ≡ negℤ (pos 1)) ⊎ ((getD (codeOf n) k (pos 0) ≡ pos 0) ⊎ (getD (codeOf n) k (pos 0) ≡ pos 1))
+
+unfoldable pub CodesOverlap : Type 0
+CodesOverlap = (n k : ℕ) → 1 ≤ n → n ≤ 511 → k ≤ 57 → getD (codeOf n) (k + 2) (pos 0) ≡ getD (codeOf (n - 1)) k (pos 0)
