@@ -5,5 +5,6 @@ pub mod Packed
 pub mod Fields
 pub mod Mended
 pub mod Answered
+pub mod Readings
 pub mod Laws
 pub mod Determined

@@ -24,7 +24,7 @@ use Rattle.text.proofs.Laid.{laid-none, put-then}
 use Rattle.listing.specs.Lines.{frameLine, lastLine}
 use Rattle.listing.specs.Listing.{linesFrom, bodyOf}
 use Rattle.listing.proofs.Puts.{Put, put-as}
-use Rattle.listing.proofs.Readings.{InRange, reading-range}
+use Rattle.frame.proofs.Readings.{InRange, reading-range}
 
 -- what was laid and the lines of the frames that are left make the lines of all; what was counted, and what is left, the counts of all
 pub record Listing (s before : List ℕ) (start : ℕ) (o : List ℕ) (end at left count repaired breaks : ℕ) : Type 0 where

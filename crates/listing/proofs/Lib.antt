@@ -1,5 +1,4 @@
 pub mod Puts
-pub mod Readings
 pub mod Lines
 pub mod Frames
 pub mod Short

@@ -45,7 +45,7 @@ use Rattle.listing.specs.Lines.{headLine, fields, frameLine, lastLine, p
 use Rattle.listing.specs.Listing.{linesFrom, bodyOf, textOf, listingOf, room}
 use Rattle.listing.specs.Promised.{Fits}
 use Rattle.listing.proofs.Lines.{refused-line, heard-line}
-use Rattle.listing.proofs.Readings.{InRange, reading-range, reading-sync}
+use Rattle.frame.proofs.Readings.{InRange, reading-range, reading-sync}
 
 -- ---- what a walk tells
 

@@ -28,6 +28,7 @@ use Rattle.frame.proofs.Gathered.{bitAt-small}
 use Rattle.frame.proofs.Packed.{sent-small}
 use Rattle.frame.proofs.Mended.{guarded-field-small, guarded-bit-small, guarded-place, guarded-first, guarded-last, guarded-apart, mended-bits, mended-same, mended-there}
 use Rattle.frame.proofs.Answered.{accepted, Accepted, accepted-only, left, read-eighteen}
+use Rattle.frame.proofs.Readings.{record-fits}
 use Rattle.frame.proofs.Laws.{bit-packed, packed-byte, length-packed, packed-bits, packed-cong-bits, number-cong, value-cong, record-cong, mended-cong, value-sent, clean-same, guardedOf, bit-number, number-is, clean-check, number-over, mended-over, parity-below, written-clean, index-of-record, bits-width, as-sent, parity-told, number-one, number-none, mended-one, number-two, nowhere}
 use Rattle.promises.specs.Frames.{Shaped, Eighteen, ReadsBack, WritesBack, Clean, SameBits, Made, flipped, readBit, DamageAlone, Flipped, Unflipped, OneMended, TwoReported, EveryFrameRead, OneFrame, Comes, SixteenFrames}
 
@@ -103,13 +104,8 @@ module _ (s : List ℕ) (long : length s ≡ 18) where
       ∙ ap (λ (x : ℕ). bit x i) (index-of-record (mended (bitAt s)) f a l)
       ∙ value-bit (mended (bitAt s)) f (omega arith) (mended-bits (bitAt s) (bitAt-small s)) i (rw (bits-width f a) w)
 
--- what is read fits its fields, and has the shape of a record
+-- what is read has the shape of a record
 module _ (b : ℕ → ℕ) (bits : (p : ℕ) → b p < 2) where
-  read-fits : tooLarge (recordOf b) ≡ 0
-  read-fits =
-      all-fit-none-too-large (recordOf b)
-      (λ f a l. rw (index-of-record b f a l, sym (bits-width f a)) (value-small b f (omega arith) bits))
-
   read-shaped : Shaped (recordOf b)
   read-shaped = record { parameters = length-tabulate (λ k. valueOf b (k + 1)) 10; indices = length-tabulate (λ k. valueOf b (k + 11)) 16 }
 
@@ -172,7 +168,7 @@ same-bits-back s t full long = (clean, back)
         yes-accepted : Written.Frame ≡ writtenOf (readingOf s .indices) (length t)
         yes-accepted =
             accepted (readingOf s .indices) (length t) long
-            (ap tooLarge is ∙ read-fits (mended b) (mended-bits b (bitAt-small s)))
+            (ap tooLarge is ∙ record-fits (mended b) (mended-bits b (bitAt-small s)))
             (ap recordMark is ∙ sym (read-mark s (full .long)) ∙ c .order)
             (c .expansion)
 

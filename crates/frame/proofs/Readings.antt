@@ -1,4 +1,4 @@
--- What is read in any bytes is in range: the indices fit, and so do the numbers that a line prints.
+-- What is read in any bytes is in range: the indices fit their fields, the correction number is below 16, the order mark at most 9.
 -- Assumes nothing.
 use mathlib.Core.Path.{_≡_, _∙_, sym, refl, ap, subst}
 use mathlib.Core.List.{List}
