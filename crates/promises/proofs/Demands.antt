@@ -7,6 +7,7 @@ use Rattle.promises.proofs.Worked as worked
 use Rattle.promises.proofs.Refused as refused
 use Rattle.promises.proofs.Repairs as repairs
 use Rattle.promises.proofs.Values as values
+use Rattle.promises.proofs.Boundary as boundary
 use Rattle.promises.proofs.Rule as rule
 use Rattle.promises.proofs.Made as made
 use Rattle.promises.proofs.Parts as parts
@@ -51,6 +52,7 @@ demand-two =
       delays-rise = values.delays-rise;
       each-byte-once = values.each-byte-once;
       delays-come-back = values.delays-come-back;
+      fixed-windows = values.fixed-windows;
       delays-heard = values.delays-heard;
       averaged = values.averaged;
       first-averaged = values.first-averaged;
@@ -58,6 +60,12 @@ demand-two =
       mark-is-lowest = values.mark-is-lowest;
       ternary = values.ternary;
       codes-overlap = values.codes-overlap;
+      draws-wrap = values.draws-wrap;
+      draws-at-positions = values.draws-at-positions;
+      pairs-hold-record = boundary.pairs-hold-record;
+      read-tells = boundary.read-tells;
+      write-tells = boundary.write-tells;
+      boundary-reads-back = boundary.boundary-reads-back;
       all-twelve = worked.all-twelve;
       made-is-sound = made.made-is-sound;
       sound-is-made = made.sound-is-made;

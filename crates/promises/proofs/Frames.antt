@@ -45,10 +45,6 @@ module _ (r : Record) where
   unfolding frameOf
   frame-long = length-packed bits-sent
 
-  frame-eighteen : Eighteen (frameOf r)
-  unfolding frameOf
-  frame-eighteen = record { long = length-packed bits-sent; bytes = packed-byte bits-sent (sent-small (withParity r (parityOf r))) }
-
   frame-clean : number (bitAt (frameOf r)) ≡ 0
   frame-clean = number-cong (bitAt (frameOf r)) bits-sent frame-bit ∙ written-clean r
 
@@ -104,18 +100,13 @@ module _ (s : List ℕ) (long : length s ≡ 18) where
       ∙ ap (λ (x : ℕ). bit x i) (index-of-record (mended (bitAt s)) f a l)
       ∙ value-bit (mended (bitAt s)) f (omega arith) (mended-bits (bitAt s) (bitAt-small s)) i (rw (bits-width f a) w)
 
--- what is read has the shape of a record
-module _ (b : ℕ → ℕ) (bits : (p : ℕ) → b p < 2) where
-  read-shaped : Shaped (recordOf b)
-  read-shaped = record { parameters = length-tabulate (λ k. valueOf b (k + 1)) 10; indices = length-tabulate (λ k. valueOf b (k + 11)) 16 }
-
-  -- clean bits have the parity of the record in them
-  clean-parity : number b ≡ 0 → parityOf (recordOf b) ≡ valueOf b 0
-  clean-parity e =
-      same-bits 4 (parityOf (recordOf b)) (valueOf b 0) (parity-below (recordOf b)) (value-small b 0 (omega arith) bits)
-      (λ i l. let t = parity-told b bits i l in
-      let c = clean-check b e i l in
-      omega (arith, t, c))
+-- clean bits have the parity of the record in them
+clean-parity : (b : ℕ → ℕ) → ((p : ℕ) → b p < 2) → number b ≡ 0 → parityOf (recordOf b) ≡ valueOf b 0
+clean-parity b bits e =
+    same-bits 4 (parityOf (recordOf b)) (valueOf b 0) (parity-below (recordOf b)) (value-small b 0 (omega arith) bits)
+    (λ i l. let t = parity-told b bits i l in
+    let c = clean-check b e i l in
+    omega (arith, t, c))
 
 -- a clean frame is the frame of the record read in it
 back-again : (s : List ℕ) → Eighteen s → number (bitAt s) ≡ 0 → frameOf (recordOf (bitAt s)) ≡ s

@@ -4,22 +4,23 @@ use mathlib.Core.Path.{_≡_, _∙_, sym, refl, ap}
 use mathlib.Core.List.{List, [], _∷_}
 use Prim.Native.Nat.{ℕ, _+_, _-_, _*_, _<_, _≤_}
 use native.Mathlib.Omega.{arith}
-use lib.IntN.{ℤ, pos}
+use lib.IntN.{ℤ, pos, _+ℤ_}
 use lib.ListN.{getD}
 use Rattle.record.specs.declared.Record.{Record}
 use Rattle.gains.specs.Tables.{cgTable, pgTable}
 use Rattle.gains.proofs.Laws.{cg-nearest, pg-nearest, cg-back, pg-back, cg-mirrored}
 use Rattle.delays.proofs.Table.{twelfths-rise, byte-below, rank-byte, rank-below, byte-rank}
-use Rattle.delays.proofs.Laws.{codes-whole}
+use Rattle.delays.proofs.Laws.{codes-whole, window-start, window-end}
 use Rattle.lsp.proofs.Laws.{of-four, mark-in-order, mark-falls}
 use Rattle.codebook.specs.Code.{codeOf}
-use Rattle.codebook.proofs.Laws.{code-ternary, one-of-three, overlap}
+use Rattle.codebook.specs.Draw.{wrapped, drawOf}
+use Rattle.codebook.proofs.Laws.{code-ternary, one-of-three, overlap, wrapped-congruent, sum-only, position-range}
 use Rattle.values.specs.Outcome.{outcomeOf}
 use Rattle.values.specs.Values.{inSubframes, cgIndex, pgIndex, delaysOf, valuesOf, freshState}
 use Rattle.values.specs.declared.State.{State}
 use Rattle.values.specs.declared.Outcome.the-variants.{Heard}
 use Rattle.values.proofs.Laws.{values-outcome, heard-cg, heard-pg, heard-delays, heard-state, later-averages, first-averages, fresh-not-heard}
-use Rattle.promises.specs.Values.{NearestEntry, GainsComeBack, CgMirrored, DelaysRise, EachByteOnce, DelaysComeBack, Subframe, GainsHeard, DelaysHeard, Averaged, FirstAveraged, StateHolds, MarkIsLowest, Ternary, CodesOverlap}
+use Rattle.promises.specs.Values.{NearestEntry, GainsComeBack, CgMirrored, DelaysRise, EachByteOnce, DelaysComeBack, FixedWindows, Subframe, GainsHeard, DelaysHeard, Averaged, FirstAveraged, StateHolds, MarkIsLowest, Ternary, CodesOverlap, DrawsWrap, DrawsAtPositions}
 
 pub nearest-entry : NearestEntry
 unfolding NearestEntry
@@ -44,6 +45,10 @@ each-byte-once = (λ rank h. (byte-below rank h, rank-byte rank h), λ byte h. (
 pub delays-come-back : DelaysComeBack
 unfolding DelaysComeBack
 delays-come-back = codes-whole
+
+pub fixed-windows : FixedWindows
+unfolding FixedWindows
+fixed-windows rank h = (window-start rank h, window-end rank h)
 
 -- a record whose values tell that it was heard
 module _ (r : Record) (before : State) (told : valuesOf r before .outcome ≡ Heard) where
@@ -90,3 +95,12 @@ ternary n k h = one-of-three (getD (codeOf n) k (pos 0)) (code-ternary n k h)
 pub codes-overlap : CodesOverlap
 unfolding CodesOverlap
 codes-overlap = overlap
+
+pub draws-wrap : DrawsWrap
+unfolding DrawsWrap
+draws-wrap a b x f g h =
+    (sum-only a b x f g h, λ e. let c = wrapped-congruent (a +ℤ b) in (c .0, e ∙ c .1))
+
+pub draws-at-positions : DrawsAtPositions
+unfolding DrawsAtPositions drawOf
+draws-at-positions g = (refl, position-range)

@@ -6,7 +6,10 @@ use Rattle.laws.specs.Total.{total, fromBits}
 use Rattle.laws.specs.Place.{placeOf}
 use Rattle.gains.specs.Tables.{cgTable, pgTable}
 use Rattle.gains.specs.Nearest.{apart, nearestOf}
-use Rattle.delays.specs.Table.{delays, bytes, twelfthsOf, rankOf, rankWith}
+use Rattle.delays.specs.Table.{delays, bytes, twelfthsOf, byteOf, rankOf, rankWith}
+use Rattle.delays.specs.Codes.{heardOf}
+use Rattle.lsp.specs.Average.{averagesOf}
+use Rattle.values.specs.Values.{delaysOf}
 use Rattle.lsp.specs.Table.{hzTable, hertzOf}
 use Rattle.lsp.specs.Order.{markOf}
 use Rattle.codebook.specs.Draw.{freshGenerator, wrapped, drawOf}
@@ -17,5 +20,5 @@ use Rattle.frame.specs.Answers.{readingOf, recordMark}
 use Rattle.promises.specs.Worked.{workedNumbers, AllTwelve}
 
 pub all-twelve : AllTwelve
-unfolding AllTwelve workedNumbers apart nearestOf twelfthsOf rankOf rankWith lowestFrom tabulateFrom total fromBits placeOf cgTable pgTable delays bytes hzTable hertzOf markOf freshGenerator wrapped drawOf places seek guardedPlace number mended bitAt packed valueOf readingOf recordMark
+unfolding AllTwelve workedNumbers apart nearestOf twelfthsOf byteOf rankOf rankWith heardOf averagesOf delaysOf lowestFrom tabulateFrom total fromBits placeOf cgTable pgTable delays bytes hzTable hertzOf markOf freshGenerator wrapped drawOf places seek guardedPlace number mended bitAt packed valueOf readingOf recordMark
 all-twelve = tt

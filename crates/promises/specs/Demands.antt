@@ -4,7 +4,8 @@ use Rattle.promises.specs.Frames.{ReadsBack, SameBits, DamageAlone, OneM
 use Rattle.promises.specs.Functions.{WriteThenRead, ReadThenWrite, RepairByDamage, OneFlip, TwoFlips, NoTwoFrames}
 use Rattle.promises.specs.Refused.{ReaderRefuses, WriterRefuses, RefusedFrameStays, HearingRefuses, RefusedStateStays, DelaysRefuse, CodeRefuses, RefusedCodeStays, GainRefuses, RefusedReadStays, RefusedWriteStays}
 use Rattle.promises.specs.Repairs.{CleanChangesNothing, ParityHitChangesNothing, DataHitInvertsOne, UnguardedUnseen, ThreeUnseen}
-use Rattle.promises.specs.Values.{NearestEntry, GainsComeBack, CgMirrored, DelaysRise, EachByteOnce, DelaysComeBack, GainsHeard, DelaysHeard, Averaged, FirstAveraged, StateHolds, MarkIsLowest, Ternary, CodesOverlap}
+use Rattle.promises.specs.Boundary.{PairsHoldRecord, ReadTells, WriteTells, BoundaryReadsBack}
+use Rattle.promises.specs.Values.{NearestEntry, GainsComeBack, CgMirrored, DelaysRise, EachByteOnce, DelaysComeBack, FixedWindows, GainsHeard, DelaysHeard, Averaged, FirstAveraged, StateHolds, MarkIsLowest, Ternary, CodesOverlap, DrawsWrap, DrawsAtPositions}
 use Rattle.promises.specs.Rule.{LowestFirst, RefusedExactly, SoundExactly}
 use Rattle.promises.specs.Made.{MadeIsSound, SoundIsMade, NoTwo}
 use Rattle.promises.specs.Parts.{VoiceBlocksStand, FramesAreAll, EndCounts, RepairsCounted, BreaksCounted, RefusedHasNone, EmptyRefused}
@@ -60,6 +61,7 @@ pub record DemandTwo : Type 0 where
   pub delays-rise : DelaysRise
   pub each-byte-once : EachByteOnce
   pub delays-come-back : DelaysComeBack
+  pub fixed-windows : FixedWindows
   pub delays-heard : DelaysHeard
   pub averaged : Averaged
   pub first-averaged : FirstAveraged
@@ -67,6 +69,13 @@ pub record DemandTwo : Type 0 where
   pub mark-is-lowest : MarkIsLowest
   pub ternary : Ternary
   pub codes-overlap : CodesOverlap
+  pub draws-wrap : DrawsWrap
+  pub draws-at-positions : DrawsAtPositions
+  -- the C boundary
+  pub pairs-hold-record : PairsHoldRecord
+  pub read-tells : ReadTells
+  pub write-tells : WriteTells
+  pub boundary-reads-back : BoundaryReadsBack
   -- the worked numbers
   pub all-twelve : AllTwelve
   -- recordings

@@ -4,6 +4,7 @@ pub mod Worked
 pub mod Refused
 pub mod Values
 pub mod Repairs
+pub mod Boundary
 pub mod Rule
 pub mod Parts
 pub mod Running

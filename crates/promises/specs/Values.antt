@@ -3,20 +3,24 @@
 use mathlib.Core.Path.{_≡_}
 use mathlib.Core.Bool.{true, false}
 use mathlib.Core.List.{List, [], _∷_}
-use mathlib.Core.Logic.{_⊎_}
+use mathlib.Core.Logic.{_⊎_, _↔_}
 use Prim.Native.Nat.{ℕ, _+_, _-_, _*_, _<_, _≤_}
-use lib.IntN.{ℤ, pos, negℤ}
+use lib.IntN.{ℤ, pos, negℤ, _+ℤ_, _*ℤ_}
 use lib.ListN.{getD}
+use mir.Syntax.{w16}
+use mir.Val.{SFits}
 use Rattle.record.specs.declared.Record.{Record}
 use Rattle.gains.specs.Tables.{cgTable, pgTable}
 use Rattle.gains.specs.Nearest.{nearestOf, Nearest}
 use Rattle.delays.specs.Table.{twelfthsOf, byteOf, rankOf}
-use Rattle.delays.specs.Codes.{heardOf, codedOf}
+use Rattle.delays.specs.Codes.{afterOf, heardOf, codedOf}
 use Rattle.delays.specs.declared.Coded.the-variants.{Codes}
 use Rattle.lsp.specs.Table.{lsp, hertzOf}
 use Rattle.lsp.specs.Order.{markOf, InOrder}
 use Rattle.lsp.specs.Average.{subframe}
 use Rattle.codebook.specs.Code.{codeOf}
+use Rattle.codebook.specs.Draw.{positionOf, wrapped, keptAt, drawOf}
+use Rattle.codebook.specs.declared.Generator.{Generator}
 use Rattle.values.specs.Values.{cgIndex, pgIndex, pdIndex, valuesOf, freshState}
 use Rattle.values.specs.declared.State.{State}
 use Rattle.values.specs.declared.Outcome.the-variants.{Heard}
@@ -44,6 +48,14 @@ EachByteOnce =
 unfoldable pub DelaysComeBack : Type 0
 DelaysComeBack =
     (i j k l : ℕ) → i < 256 → j < 64 → k < 256 → l < 64 → codedOf (heardOf (i ∷ j ∷ k ∷ l ∷ [])) ≡ Codes i j k l
+
+-- "Both ends of the list have fixed windows" (3.5.5): after delays up to 29.25 samples the 64 codes mean 20 to 38.33, after delays from
+-- 115 on 84 to 147.
+unfoldable pub FixedWindows : Type 0
+FixedWindows =
+    (rank : ℕ) → rank < 256
+    → (twelfthsOf rank ≤ 351 → (twelfthsOf (afterOf rank 0) ≡ 240) × (twelfthsOf (afterOf rank 63) ≡ 460))
+    × (12 * 115 ≤ twelfthsOf rank → (twelfthsOf (afterOf rank 0) ≡ 12 * 84) × (twelfthsOf (afterOf rank 63) ≡ 12 * 147))
 
 -- Of a record that is heard, in subframe n: the gains of its indices, and the delays of its four PD whatever the state.
 pub record Subframe (r : Record) (before : State) (n : ℕ) : Type 0 where
@@ -95,3 +107,17 @@ Ternary =
 
 unfoldable pub CodesOverlap : Type 0
 CodesOverlap = (n k : ℕ) → 1 ≤ n → n ≤ 511 → k ≤ 57 → getD (codeOf n) (k + 2) (pos 0) ≡ getD (codeOf (n - 1)) k (pos 0)
+
+-- Draws: "sixteen-bit sums that wrap": of the numbers kept at the two positions, the only number of sixteen bits that differs from their
+-- sum by a multiple of 65,536.
+unfoldable pub DrawsWrap : Type 0
+DrawsWrap =
+    (a b x : ℤ) → SFits w16 a → SFits w16 b → SFits w16 x
+    → ((m : ℤ) × (x ≡ (a +ℤ b) +ℤ m *ℤ pos 65536)) ↔ (x ≡ wrapped (a +ℤ b))
+
+-- "the two positions kept with them count by their remainder on five, 0 being the fifth, so any state draws"
+unfoldable pub DrawsAtPositions : Type 0
+DrawsAtPositions =
+    (g : Generator)
+    → (drawOf g .value ≡ wrapped (keptAt g (positionOf (g .first)) +ℤ keptAt g (positionOf (g .second))))
+    × ((p : ℕ) → (1 ≤ positionOf p) × (positionOf p ≤ 5))

@@ -4,20 +4,22 @@ use mathlib.Core.List.{List, [], _∷_, _++_, map}
 use Prim.Native.Nat.{ℕ, suc, _*_}
 use lib.Dec.{T, eqb}
 use lib.IntN.{ℤ, pos, negℤ}
+use lib.ListN.{getD}
 use Rattle.laws.specs.Table.{both, every}
 use Rattle.laws.specs.Tabulate.{tabulate}
 use Rattle.laws.proofs.Signed.{same}
 use Rattle.record.specs.Fields.{indexOf}
 use Rattle.gains.specs.Tables.{cgTable, pgTable}
 use Rattle.gains.specs.Nearest.{nearestOf}
-use Rattle.delays.specs.Table.{twelfthsOf, rankOf, rankWith}
-use Rattle.delays.specs.Codes.{afterOf, heardOf}
-use Rattle.lsp.specs.Table.{hzOf, hertzOf}
+use Rattle.delays.specs.Table.{byteOf, rankWith}
+use Rattle.delays.specs.Codes.{heardOf}
+use Rattle.lsp.specs.Table.{hertzOf}
 use Rattle.lsp.specs.Order.{markOf}
-use Rattle.lsp.specs.Average.{averageOf}
+use Rattle.lsp.specs.Average.{averagesOf}
 use Rattle.codebook.specs.Draw.{draws, freshGenerator}
 use Rattle.frame.specs.Frame.{packed}
 use Rattle.frame.specs.Answers.{readingOf}
+use Rattle.values.specs.Values.{delaysOf}
 
 -- what the definitions give, and what document 01 prints
 pub record Worked : Type 0 where
@@ -47,13 +49,17 @@ read s = plain (readingOf s .number ∷ tabulate (λ k. indexOf (readingOf s .in
 abbrev pub zeros : ℕ → List ℤ
 zeros n = tabulate (λ k. pos 0) n
 
--- what a six-bit code means after a delay, both in twelfths
+-- what a six-bit code means after a delay that is sent by its printed byte, both in twelfths
 abbrev pub following : ℕ → ℕ → ℕ
-following delay code = twelfthsOf (afterOf (rankWith delay) code)
+following delay code = getD (heardOf (byteOf (rankWith delay) ∷ code ∷ 0 ∷ 0 ∷ [])) 1 0
 
--- the order mark with LSP 4 at index 12 and LSP 5 at a given one, no lower pair falling
-abbrev pub markWith : ℕ → ℕ
-markWith index = markOf (hertzOf (0 ∷ 0 ∷ 0 ∷ 12 ∷ index ∷ 7 ∷ 7 ∷ 7 ∷ 7 ∷ 7 ∷ []))
+-- what a printed byte means in subframe 1
+abbrev pub firstHeard : ℕ → ℕ
+firstHeard byte = getD (heardOf (byte ∷ 0 ∷ 0 ∷ 0 ∷ [])) 0 0
+
+-- ten LSPs in Hz with LSP 4 at index 12 and LSP 5 at a given one, no lower pair falling
+abbrev pub fifthAt : ℕ → List ℕ
+fifthAt index = hertzOf (0 ∷ 0 ∷ 0 ∷ 12 ∷ index ∷ 7 ∷ 7 ∷ 7 ∷ 7 ∷ 7 ∷ [])
 
 unfoldable pub workedNumbers : List Worked
 workedNumbers =
@@ -66,12 +72,12 @@ workedNumbers =
           plain
           (readingOf (only (11 ∷ 61 ∷ [])) .number ∷
           indexOf (readingOf (only (11 ∷ 61 ∷ [])) .indices) 11 ∷
-          twelfthsOf (rankOf 224) ∷ []);
+          getD (delaysOf (readingOf (only (11 ∷ 61 ∷ [])) .indices)) 0 0 ∷ []);
       printed = plain (6 ∷ 224 ∷ 748 ∷ []);
     } ∷
     record { number = 5; given = read (only (21 ∷ [])); printed = pos 1 ∷ zeros 28 } ∷
-    record { number = 6; given = plain (averageOf 1 340 250 ∷ []); printed = plain (2630 ∷ []) } ∷
-    record { number = 7; given = plain (twelfthsOf (rankOf 0x42) ∷ twelfthsOf (rankOf 0xaf) ∷ []); printed = plain (240 ∷ 1764 ∷ []) } ∷
+    record { number = 6; given = plain (getD (averagesOf (340 ∷ []) (250 ∷ [])) 0 0 ∷ []); printed = plain (2630 ∷ []) } ∷
+    record { number = 7; given = plain (firstHeard 0x42 ∷ firstHeard 0xaf ∷ []); printed = plain (240 ∷ 1764 ∷ []) } ∷
     record { number = 8; given = plain (following 351 0 ∷ following 351 63 ∷ []); printed = plain (240 ∷ 460 ∷ []) } ∷
     record { number = 9; given = plain (following 354 0 ∷ following 354 63 ∷ []); printed = plain (244 ∷ 464 ∷ []) } ∷
     record {
@@ -88,7 +94,7 @@ workedNumbers =
     } ∷
     record {
       number = 12;
-      given = plain (hzOf 4 12 ∷ hzOf 5 9 ∷ markWith 9 ∷ markWith 8 ∷ []);
+      given = plain (getD (fifthAt 9) 3 0 ∷ getD (fifthAt 9) 4 0 ∷ markOf (fifthAt 9) ∷ markOf (fifthAt 8) ∷ []);
       printed = plain (1670 ∷ 1670 ∷ 0 ∷ 4 ∷ []);
     } ∷ []
 
