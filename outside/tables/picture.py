@@ -2,7 +2,7 @@
 """Draws the 144 places of a frame, and how a flip travels to an index, as SVG.
 
     picture.py places      the frame, 18 bytes of 8 places, coloured by what each place belongs to
-    picture.py flip        one flipped place on its way through the table to a bit of an index
+    picture.py flip        flipped places on their way through the table and the repair to bits of indices
     picture.py --check     compares both with docs/places.svg and docs/flip.svg
 
 The pictures are made from places.txt and guarded.txt of this folder alone.
@@ -69,23 +69,41 @@ def places():
     return drawn(left + 8 * wide + 20, y + 80, parts)
 
 
+def travels(flips):
+    """Flipped places on their way: the number, the place that the repair inverts (none for 0), and the bits read wrong."""
+    number = 0
+    for place in flips:
+        number ^= GUARDED.get(place, 0)
+    repaired = [place for place, n in GUARDED.items() if n == number]
+    wrong = sorted(PLACES[place - 1] for place in set(flips) ^ set(repaired) if kind(PLACES[place - 1]) != "HP")
+    return number, repaired, wrong
+
+
 def flip():
-    """Place 11 of a frame, flipped by the air, on its way to bit 5 of PD(1), and the repair beside it."""
-    place = 11
-    name, number = PLACES[place - 1], GUARDED[place]
-    field, bit = name.rsplit("-", 1)
-    parts = [text(390, 24, "How one flip travels, and what a repair does with it", 16, weight="bold")]
-    steps = [("on the air", f"place {place} is flipped"), ("in the frame", f"byte {(place - 1) // 8}, bit {7 - (place - 1) % 8}"),
-             ("by the table of 3.8.2", f"{name}"), ("in the record", f"bit {bit} of {field}")]
-    for i, (above, words) in enumerate(steps):
-        x = 20 + i * 190
-        parts += [text(x + 80, 62, above, 11), box(x, 70, 160, 44, "#d9ecc8" if i else "#f9d5cf"), text(x + 80, 97, words, 13)]
-        if i < 3:
-            parts.append(f'<path d="M{x + 162} 92 h22 m-6 -4 l6 4 l-6 4" fill="none" stroke="#333"/>')
-    parts += [text(20, 152, f"The parity bits tell number {number}: the guarded bit of that number, {name}, is inverted back.", 13, "start"),
-              text(20, 176, "The number depends on the flipped places alone, never on what was said.", 13, "start"),
-              text(20, 200, "A flip outside the fifteen guarded places goes straight to its bit, and nothing reports it.", 13, "start")]
-    return drawn(790, 220, parts)
+    """Five ways of a flip: a row for each, from the places flipped on the air to the bits of the indices that are read wrong."""
+    rows = [("one guarded place", (11,)), ("a parity place", (21,)), ("two guarded places", (11, 61)),
+            ("three that cancel out", (21, 51, 11)), ("a place that is not guarded", (43,))]
+    heads = ["flipped on the air", "the number", "the repair inverts", "then read wrong"]
+    wides, gap, left, top, high = (230, 90, 170, 250), 26, 20, 64, 66
+    parts = [text(420, 26, "How a flip travels to an index, and what a repair does with it", 16, weight="bold")]
+    for i, (words, flips) in enumerate(rows):
+        number, repaired, wrong = travels(flips)
+        inverts = PLACES[repaired[0] - 1] if repaired else "nothing"
+        cells = [", ".join(f"{place} ({PLACES[place - 1]})" for place in flips), str(number), inverts,
+                 ", ".join(wrong) if wrong else "nothing"]
+        x, y = left, top + i * high
+        parts.append(text(left, y + 12, words, 12, "start", "bold"))
+        for k, cell in enumerate(cells):
+            if i == 0:
+                parts.append(text(x + wides[k] / 2, top - 8, heads[k], 11))
+            parts.append(box(x, y + 18, wides[k], 30, "#f9d5cf" if k == 0 or (k == 3 and wrong) else "#d9ecc8"))
+            parts.append(text(x + wides[k] / 2, y + 38, cell, 12))
+            if k < 3:
+                parts.append(f'<path d="M{x + wides[k] + 2} {y + 33} h{gap - 6} m-6 -4 l6 4 l-6 4" fill="none" stroke="#333"/>')
+            x += wides[k] + gap
+    y = top + len(rows) * high + 16
+    parts.append(text(left, y, "The number and the bits read wrong depend on the flipped places alone, never on what was said.", 12, "start"))
+    return drawn(left * 2 + sum(wides) + 3 * gap, y + 20, parts)
 
 
 PICTURES = {"places": places, "flip": flip}

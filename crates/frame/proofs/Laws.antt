@@ -339,6 +339,23 @@ module _ (e : ℕ → ℕ) (m n : ℕ) (a : 1 ≤ m) (l : m ≤ 15) (b : 1 ≤ n
       let w = clean-check e z i h in
       omega (arith, c, w)))
 
+  -- by the number of a third place: were it one of the two, the other would be 0
+  not-either : (x y : ℕ) → 1 ≤ y → y ≤ 15 → ((i : ℕ) → (bit x i + bit y i) % 2 ≡ (bit m i + bit n i) % 2) → number e ≡ x → ⊥
+  not-either x y f t both z = omega (arith, none, f)
+    where
+      none : y ≡ 0
+      none =
+          same-bits 4 y 0 (omega arith) (omega arith)
+          (λ i h. let c = check-two i in
+          let w = bit-number e i h in
+          let v : bit (number e) i ≡ bit x i = ap (λ (q : ℕ). bit q i) z in
+          let o = bit-zero i in
+          let p = both i in
+          omega (arith, c, w, v, o, p))
+
+  pub number-third : (number e ≡ m → ⊥) × (number e ≡ n → ⊥)
+  number-third = (not-either m n b k (λ i. refl), not-either n m a l (λ i. omega arith))
+
 -- bits that agree are packed into the same bytes
 pub packed-cong-bits : (b c : ℕ → ℕ) → ((p : ℕ) → 1 ≤ p → p ≤ 144 → b p ≡ c p) → packed b ≡ packed c
 unfolding packed

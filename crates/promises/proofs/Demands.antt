@@ -93,6 +93,7 @@ demand-three =
       clean-changes-nothing = repairs.clean-changes-nothing;
       parity-hit-changes-nothing = repairs.parity-hit-changes-nothing;
       data-hit-inverts-one = repairs.data-hit-inverts-one;
+      two-never-mended = repairs.two-never-mended;
       unguarded-unseen = repairs.unguarded-unseen;
       three-unseen = repairs.three-unseen;
     }

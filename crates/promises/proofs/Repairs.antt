@@ -23,10 +23,10 @@ use Rattle.frame.specs.Answers.{readingOf, recordMark}
 use Rattle.frame.proofs.Fields.{place-first, place-last, field-of-place, bit-of-place}
 use Rattle.frame.proofs.Gathered.{bitAt-small}
 use Rattle.frame.proofs.Mended.{guarded-field-small, guarded-bit-small, guarded-place, field-of-guarded, mended-same, mended-there}
-use Rattle.frame.proofs.Laws.{bits-width, packed-byte, length-packed, clean-same, number-none, number-below, nowhere}
+use Rattle.frame.proofs.Laws.{bits-width, packed-byte, length-packed, clean-same, number-none, number-third, number-below, nowhere}
 use Rattle.promises.specs.Frames.{Eighteen, Made, flipped, readBit, Unflipped}
 use Rattle.promises.specs.Worked.{only, isIn}
-use Rattle.promises.specs.Repairs.{AsItCame, CleanChangesNothing, ParityNumber, one, two, four, eight, ParityHitChangesNothing, OneInverted, DataHitInvertsOne, UnguardedUnseen, ThreeUnseen}
+use Rattle.promises.specs.Repairs.{AsItCame, CleanChangesNothing, ParityNumber, one, two, four, eight, ParityHitChangesNothing, OneInverted, DataHitInvertsOne, TwoNeverMended, UnguardedUnseen, ThreeUnseen}
 use Rattle.promises.proofs.Frames.{read-number, read-bit, flips-bit, flips-number}
 
 -- a bit at another place than the number's is read as it came
@@ -142,6 +142,17 @@ data-hit-inverts-one s full n is z p = record {
           sym (field-of-place g j (omega arith) u) ∙ ap fieldAt e ∙ field-of-place F K (omega (arith, last)) v,
           sym (bit-of-place g j (omega arith) u) ∙ ap bitIn e ∙ bit-of-place F K (omega (arith, last)) v,
         )
+
+pub two-never-mended : TwoNeverMended
+unfolding TwoNeverMended
+two-never-mended w e made full m n a l b k apart here there rest =
+    (λ z. third .0 (same ∙ z), λ z. third .1 (same ∙ z))
+  where
+    third : (number (bitAt e) ≡ m → ⊥) × (number (bitAt e) ≡ n → ⊥)
+    third = number-third (bitAt e) m n a l b k apart here there rest
+
+    same : number (bitAt e) ≡ readingOf (flipped w e) .number
+    same = sym (read-number e (full .long)) ∙ sym (flips-number w made e full)
 
 -- flips that spare the guarded places have number 0
 module _ (e : List ℕ) (full : Eighteen e) (spared : (n : ℕ) → 1 ≤ n → n ≤ 15 → Unflipped e n) where

@@ -3,7 +3,7 @@
 use Rattle.promises.specs.Frames.{ReadsBack, SameBits, DamageAlone, OneMended, TwoReported, EveryFrameRead, OneFrame, SixteenFrames}
 use Rattle.promises.specs.Functions.{WriteThenRead, ReadThenWrite, RepairByDamage, OneFlip, TwoFlips, NoTwoFrames}
 use Rattle.promises.specs.Refused.{ReaderRefuses, WriterRefuses, RefusedFrameStays, HearingRefuses, RefusedStateStays, DelaysRefuse, CodeRefuses, RefusedCodeStays, GainRefuses, RefusedReadStays, RefusedWriteStays}
-use Rattle.promises.specs.Repairs.{CleanChangesNothing, ParityHitChangesNothing, DataHitInvertsOne, UnguardedUnseen, ThreeUnseen}
+use Rattle.promises.specs.Repairs.{CleanChangesNothing, ParityHitChangesNothing, DataHitInvertsOne, TwoNeverMended, UnguardedUnseen, ThreeUnseen}
 use Rattle.promises.specs.Boundary.{PairsHoldRecord, ReadTells, WriteTells, BoundaryReadsBack}
 use Rattle.promises.specs.Values.{NearestEntry, GainsComeBack, CgMirrored, DelaysRise, EachByteOnce, DelaysComeBack, FixedWindows, GainsHeard, DelaysHeard, Averaged, FirstAveraged, StateHolds, MarkIsLowest, Ternary, CodesOverlap, DrawsWrap, DrawsAtPositions}
 use Rattle.promises.specs.Rule.{LowestFirst, RefusedExactly, SoundExactly}
@@ -107,5 +107,6 @@ pub record DemandThree : Type 0 where
   pub clean-changes-nothing : CleanChangesNothing
   pub parity-hit-changes-nothing : ParityHitChangesNothing
   pub data-hit-inverts-one : DataHitInvertsOne
+  pub two-never-mended : TwoNeverMended
   pub unguarded-unseen : UnguardedUnseen
   pub three-unseen : ThreeUnseen

@@ -8,7 +8,7 @@ use Rattle.frame.specs.Places.{placeOf, fieldOf, bitOf}
 use Rattle.frame.specs.Parity.{guardedName, inverted}
 use Rattle.frame.specs.Frame.{bitAt}
 use Rattle.frame.specs.Answers.{readingOf}
-use Rattle.promises.specs.Frames.{Eighteen, Made, flipped, readBit, Unflipped}
+use Rattle.promises.specs.Frames.{Eighteen, Made, flipped, readBit, Flipped, Unflipped}
 use Rattle.promises.specs.Worked.{only}
 
 -- bit i of field f is read as it came
@@ -43,6 +43,14 @@ unfoldable pub DataHitInvertsOne : Type 0
 DataHitInvertsOne =
     (s : List ℕ) → Eighteen s → (n : ℕ) → readingOf s .number ≡ n → (n ≡ 0 → ⊥) → (ParityNumber n → ⊥)
     → OneInverted s (fieldOf (guardedName n)) (bitOf (guardedName n))
+
+-- "Two flips among the fifteen .. are reported, but never mended": the number is that of a third place.
+unfoldable pub TwoNeverMended : Type 0
+TwoNeverMended =
+    (w e : List ℕ) → Made w → Eighteen e → (m n : ℕ) → 1 ≤ m → m ≤ 15 → 1 ≤ n → n ≤ 15 → (m ≡ n → ⊥)
+    → Flipped e m → Flipped e n
+    → ((q : ℕ) → 1 ≤ q → q ≤ 15 → (q ≡ m → ⊥) → (q ≡ n → ⊥) → Unflipped e q)
+    → (readingOf (flipped w e) .number ≡ m → ⊥) × (readingOf (flipped w e) .number ≡ n → ⊥)
 
 -- Flips outside the fifteen guarded places give number 0, and each is read as it was flipped.
 unfoldable pub UnguardedUnseen : Type 0
