@@ -9,24 +9,24 @@ use native.Mathlib.Nat.{zero-add, add-zero}
 use native.Mathlib.Decide.{ℕ-discrete}
 use lib.ListN.{length, getD, take, drop, length-append, length-drop, take-append-drop, drop-of-length-le}
 use lib.Seq.{getD-append-add, drop-append-add, take-append-seam, drop-cons, drop-drop, take-add, length-take-le}
-use Rattle.recording.specs.Blocks.{pairAt, wordAt, blockAt, part}
-use Rattle.recording.specs.Walk.{pastHead, pastVoice, atStart, walkFrom, walkedOf}
-use Rattle.recording.specs.Frames.{voiceSize, voicesFrom, payloadsOf, voiceBlockOf, framesIn, framesOf}
+use Rattle.blocks.specs.Blocks.{pairAt, wordAt, blockAt, part}
+use Rattle.blocks.specs.Walk.{pastHead, pastVoice, atStart, walkFrom, walkedOf}
+use Rattle.blocks.specs.Frames.{voiceSize, voicesFrom, payloadsOf, voiceBlockOf, framesIn, framesOf}
 use Rattle.recording.specs.Judged.{judgedBy, judgedOf}
 use Rattle.promises.specs.Parts.{laid}
 use Rattle.promises.specs.Made.{pairBytes, wordBytes, block, voiceBlocks, made, MadeFrom, summaryOf, MadeIsSound, Bytes, SoundIsMade, NoTwo}
-use Rattle.recording.specs.declared.Block.the-variants.{Head, Voice, End}
-use Rattle.recording.specs.declared.Heading.{Heading}
-use Rattle.recording.specs.declared.Walked.{Walked}
-use Rattle.recording.specs.declared.Walked.the-variants.{Whole}
-use Rattle.recording.specs.declared.Walk.{Walk}
+use Rattle.blocks.specs.declared.Block.the-variants.{Head, Voice, End}
+use Rattle.blocks.specs.declared.Heading.{Heading}
+use Rattle.blocks.specs.declared.Walked.{Walked}
+use Rattle.blocks.specs.declared.Walked.the-variants.{Whole}
+use Rattle.blocks.specs.declared.Walk.{Walk}
 use Rattle.recording.specs.declared.Summary.{Summary}
 use Rattle.recording.specs.declared.Judged.{Judged}
 use Rattle.recording.specs.declared.Judged.the-variants as Judged
-use Rattle.recording.proofs.Blocks as blocks
-use Rattle.recording.proofs.Blocks.{Bounds}
-use Rattle.recording.proofs.Voices.{voice-bounds, voice-itself, end-no-voice, voices-none, voices-more}
-use Rattle.recording.proofs.Walks.{first-head, voice-passed, end-right, walk-on, walk-done, walked-from, whole-short}
+use Rattle.blocks.proofs.Blocks as blocks
+use Rattle.blocks.proofs.Blocks.{Bounds}
+use Rattle.blocks.proofs.Voices.{voice-bounds, voice-itself, end-no-voice, voices-none, voices-more}
+use Rattle.blocks.proofs.Walks.{first-head, voice-passed, end-right, walk-on, walk-done, walked-from, whole-short}
 use Rattle.promises.proofs.Whole.{Opened, whole-opened, frames-in-more, frames-in-none}
 use Rattle.promises.proofs.Parts.{sound-told, payloads-whole, frames-counted, voice-blocks-stand}
 

@@ -10,27 +10,27 @@ use borrow.Author.Tests.{eq-eqb, ne-eqb, lt-ltb, le-ltb}
 use lib.Dec.{eqb, ltb}
 use lib.ListN.{length, getD}
 use Rattle.laws.specs.Table.{both}
-use Rattle.recording.specs.Blocks.{wordAt, sizeAt, kindAt, blockAt}
-use Rattle.recording.specs.Walk.{longest, refuse, pastHead, pastVoice, stepOf, atStart, walkFrom, walkedOf}
-use Rattle.recording.specs.Frames.{framesOf}
+use Rattle.blocks.specs.Blocks.{wordAt, sizeAt, kindAt, blockAt}
+use Rattle.blocks.specs.Walk.{longest, refuse, pastHead, pastVoice, stepOf, atStart, walkFrom, walkedOf}
+use Rattle.blocks.specs.Frames.{framesOf}
 use Rattle.recording.specs.Judged.{judgedBy, judgedOf}
-use Rattle.recording.specs.Refusals.{refusalOf}
+use Rattle.blocks.specs.Refusals.{refusalOf}
 use Rattle.promises.specs.Rule.{rightSize, knownKind, inTurn, Condition, order, LowestFirst, Clean, ClearBefore, Reached, Given, Accepted, RefusedExactly, SoundExactly}
 use Rattle.promises.specs.Rule.Reached.{at-first, past-head, past-voice}
-use Rattle.recording.specs.declared.Cause.{Cause}
-use Rattle.recording.specs.declared.Cause.the-variants.{TooLong, HeaderCut, PastEnd, WrongSize, UnknownKind, OutOfTurn, EndMissing, WrongCount, Extra}
-use Rattle.recording.specs.declared.Block.the-variants.{Head, Voice, End, Broken}
-use Rattle.recording.specs.declared.Heading.{Heading}
-use Rattle.recording.specs.declared.Walked.{Walked}
-use Rattle.recording.specs.declared.Walked.the-variants.{Whole, Refused}
-use Rattle.recording.specs.declared.Walk.{Walk}
-use Rattle.recording.specs.declared.Moved.{Moved}
-use Rattle.recording.specs.declared.Moved.the-variants.{On, Done}
+use Rattle.blocks.specs.declared.Cause.{Cause}
+use Rattle.blocks.specs.declared.Cause.the-variants.{TooLong, HeaderCut, PastEnd, WrongSize, UnknownKind, OutOfTurn, EndMissing, WrongCount, Extra}
+use Rattle.blocks.specs.declared.Block.the-variants.{Head, Voice, End, Broken}
+use Rattle.blocks.specs.declared.Heading.{Heading}
+use Rattle.blocks.specs.declared.Walked.{Walked}
+use Rattle.blocks.specs.declared.Walked.the-variants.{Whole, Refused}
+use Rattle.blocks.specs.declared.Walk.{Walk}
+use Rattle.blocks.specs.declared.Moved.{Moved}
+use Rattle.blocks.specs.declared.Moved.the-variants.{On, Done}
 use Rattle.recording.specs.declared.Summary.{Summary}
 use Rattle.recording.specs.declared.Judged.{Judged}
 use Rattle.recording.specs.declared.Judged.the-variants as Judged
-use Rattle.recording.proofs.Blocks as blocks
-use Rattle.recording.proofs.Walks as walks
+use Rattle.blocks.proofs.Blocks as blocks
+use Rattle.blocks.proofs.Walks as walks
 
 -- ---- lowest number first
 

@@ -1,6 +1,6 @@
 use mathlib.Core.Path.{_∙_, sym}
 use native.Mathlib.Omega.{arith}
-use Rattle.recording.proofs.Frames.{found-within}
+use Rattle.blocks.proofs.Frames.{found-within}
 use Rattle.recording.proofs.Passes.{next-none-ours, next-nothing, next-heard}
 use borrow.Author.Needs.{needs}
 use Rattle.recording.proofs.next.Statement.{statement}
