@@ -1,6 +1,6 @@
 -- The returns of `block_at`, and what a block at a place says of the bytes there.
 -- Assumes nothing.
-use mathlib.Core.Path.{_≡_, sym, refl}
+use mathlib.Core.Path.{_≡_, sym, refl, ap}
 use mathlib.Core.Bool.{Bool, true, false, cond}
 use mathlib.Core.List.{List}
 use Prim.Native.Nat.{ℕ, _+_, _-_, _*_, _%_, _<_, _≤_}
@@ -19,10 +19,12 @@ pub pair-of : (s : List ℕ) (at a b : ℕ) → a ≡ getD s at 0 → b ≡ getD
 unfolding pairAt
 pair-of s at a b p q = rw (p, q)
 
-pub word-of : (s : List ℕ) (at a b c d : ℕ) → a ≡ getD s at 0 → b ≡ getD s (at + 1) 0 → c ≡ getD s (at + 2) 0 → d ≡ getD s (at + 3) 0
-    → a + 256 * (b + 256 * (c + 256 * d)) ≡ wordAt s at
-unfolding wordAt
-word-of s at a b c d p q r t = rw (p, q, r, t)
+pub word-of : (s : List ℕ) (at a b : ℕ) → a ≡ pairAt s at → b ≡ pairAt s (at + 2) → a + 65536 * b ≡ wordAt s at
+unfolding wordAt pairAt
+word-of s at a b p q =
+    let n : at + 2 + 1 ≡ at + 3 = omega arith in
+    let fourth = ap (λ (k : ℕ). getD s k 0) n in
+    rw (p, q) (omega (arith, fourth))
 
 -- nothing left, or no header
 pub nothing-left : (s : List ℕ) (at : ℕ) → length s ≤ at → Broken (EndMissing (length s)) ≡ blockAt s at
@@ -40,12 +42,11 @@ past-end s at size h c e l =
     rw (lt-leb (length s) at h, le-ltb (length s - at) 6 c, lt-ltb (length s - at - 6) (wordAt s at) (rw e at l))
 
 -- a whole block, by its kind
-module _ (s : List ℕ) (at size kind : ℕ) (starts : at < length s) (headed : 6 ≤ length s - at) (sized : size ≡ wordAt s at)
-    (ends : size ≤ length s - at - 6) (kinded : kind ≡ pairAt s (at + 4)) where
+module _ (s : List ℕ) (at size kind : ℕ) (sized : size ≡ wordAt s at) (fits : at + 6 + size ≤ length s) (kinded : kind ≡ pairAt s (at + 4)) where
   by-kind : blockAt s at ≡ ofKind s at kind size
   unfolding blockAt
   by-kind =
-      rw (lt-leb (length s) at starts, le-ltb (length s - at) 6 headed, le-ltb (length s - at - 6) (wordAt s at) (rw sized at ends), sized, kinded)
+      rw (lt-leb (length s) at (omega arith), le-ltb (length s - at) 6 (omega arith), le-ltb (length s - at - 6) (wordAt s at) (omega (arith, sized)), sized, kinded)
 
   pub wrong-head : kind ≡ 1 → (size ≡ 8 → ⊥) → Broken (WrongSize at) ≡ blockAt s at
   wrong-head k w = rw (by-kind, eq-eqb kind 1 k, ne-eqb size 8 w)

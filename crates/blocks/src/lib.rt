@@ -1,12 +1,14 @@
 // The blocks of a recording, walked one after the other to an answer; its voice blocks, and where the frames in them stand.
 // A walk comes to a place of the bytes and knows what it has passed; what stands there takes it on or ends it.
 ghost use mathlib.Core.Path.{_≡_};
-ghost use mathlib.Core.List.{List, []};
-ghost use Prim.Native.Nat.{ℕ, _+_, _-_, _*_, _≤_, _<_};
+ghost use mathlib.Core.List.{[]};
+ghost use Prim.Native.Nat.{_+_, _-_, _*_, _≤_, _<_};
 ghost use lib.ListN.{length, getD};
 ghost use Rattle.blocks.specs.Blocks.{pairAt, wordAt, blockAt};
 ghost use Rattle.blocks.specs.Walk.{longest, stepOf, walkedOf};
-ghost use Rattle.blocks.specs.Frames.{voiceSize, voicesFrom, afterHead, voiceBlockOf, foundAt, Spans};
+ghost use Rattle.blocks.specs.Frames.{voiceSize, voicesFrom, afterHead, voiceBlockOf, Spans, foundAt};
+ghost use Rattle.blocks.specs.declared.Block.the-variants.{End};
+ghost use Rattle.blocks.specs.declared.Moved.the-variants.{Done};
 
 // Why a recording is refused, and the place that is told.
 pub enum Cause {
@@ -83,6 +85,7 @@ fn byte(s: &[u8], at: usize) -> u32
 fn pair(s: &[u8], at: usize) -> u32
     requires { ⌜ at + 2 ≤ length (now s) ⌝ }
     ensures { λ r. ⌜ r ≡ pairAt (now (s .entry)) at ⌝ }
+    ensures { λ r. ⌜ r < 65536 ⌝ }
 {
     let a = byte(s, at);
     let second = at + 1;
@@ -95,14 +98,10 @@ fn word(s: &[u8], at: usize) -> u32
     requires { ⌜ at + 4 ≤ length (now s) ⌝ }
     ensures { λ r. ⌜ r ≡ wordAt (now (s .entry)) at ⌝ }
 {
-    let a = byte(s, at);
-    let second = at + 1;
-    let b = byte(s, second);
+    let low = pair(s, at);
     let third = at + 2;
-    let c = byte(s, third);
-    let fourth = at + 3;
-    let d = byte(s, fourth);
-    a + 256 * (b + 256 * (c + 256 * d))
+    let high = pair(s, third);
+    low + 65536 * high
 }
 
 // What stands at any place of any bytes.
@@ -120,6 +119,15 @@ fn block_at(s: &[u8], at: usize) -> Block
     if long - at - 6 < size {
         return Block::Broken(Cause::PastEnd(at));
     }
+    block_by_kind(s, at, size)
+}
+
+// The same where a header and its payload stand whole: by the kind.
+fn block_by_kind(s: &[u8], at: usize, size: usize) -> Block
+    requires { ⌜ size ≡ wordAt (now s) at ⌝ }
+    requires { ⌜ at + 6 + size ≤ length (now s) ⌝ }
+    ensures { λ r. ⌜ r ≡ blockAt (now (s .entry)) at ⌝ }
+{
     let kind_at = at + 4;
     let kind = pair(s, kind_at);
     let body = at + 6;
@@ -188,24 +196,31 @@ fn advance(s: &[u8], w: Walk) -> Moved
             }
             Moved::Done(Walked::Refused(Cause::OutOfTurn(at)))
         }
-        Block::End(told) => {
-            if w.frames == 0 {
-                return Moved::Done(Walked::Refused(Cause::OutOfTurn(at)));
-            }
-            if told != w.frames {
-                return Moved::Done(Walked::Refused(Cause::WrongCount(at)));
-            }
-            let after = at + 10;
-            if s.len() != after {
-                return Moved::Done(Walked::Refused(Cause::Extra(after)));
-            }
-            Moved::Done(Walked::Whole(Heading {
-                unit: w.unit,
-                number: w.number,
-                frames: w.frames,
-            }))
-        }
+        Block::End(told) => Moved::Done(end_walk(s, w, told)),
     }
+}
+
+// What a walk comes to at an end block that tells a number of frames.
+fn end_walk(s: &[u8], w: Walk, told: u32) -> Walked
+    requires { ⌜ blockAt (now s) (w .at) ≡ End told ⌝ }
+    ensures { λ r. ⌜ Done r ≡ stepOf (now (s .entry)) w ⌝ }
+{
+    let at = w.at;
+    if w.frames == 0 {
+        return Walked::Refused(Cause::OutOfTurn(at));
+    }
+    if told != w.frames {
+        return Walked::Refused(Cause::WrongCount(at));
+    }
+    let after = at + 10;
+    if s.len() != after {
+        return Walked::Refused(Cause::Extra(after));
+    }
+    Walked::Whole(Heading {
+        unit: w.unit,
+        number: w.number,
+        frames: w.frames,
+    })
 }
 
 // Walks through the blocks of any bytes: what a recording's head tells and its number of frames, or the refusal.

@@ -87,7 +87,7 @@ head-made : (unit number : ℕ) (r : List ℕ) → blockAt (block 1 (wordBytes u
 unfolding wordAt pairAt
 head-made unit number r =
     sym
-    (blocks.head (block 1 (wordBytes unit ++ wordBytes number) ++ r) 0 8 1 (omega arith) (omega arith) refl (omega arith) refl refl refl unit number
+    (blocks.head (block 1 (wordBytes unit ++ wordBytes number) ++ r) 0 8 1 refl (omega arith) refl refl refl unit number
     (sym (word-back unit)) (sym (word-back number)))
 
 module _ (pre p r : List ℕ) (at : ℕ) (e : at ≡ length pre) where
@@ -95,7 +95,7 @@ module _ (pre p r : List ℕ) (at : ℕ) (e : at ≡ length pre) where
   voice-made z m =
       let f = fits-made pre p r 2 at e in
       sym
-      (blocks.voice (bytes pre p r 2 at e) at (length p) 2 (omega (arith, f)) (omega (arith, f)) (sym (size-made pre p r 2 at e)) (omega (arith, f))
+      (blocks.voice (bytes pre p r 2 at e) at (length p) 2 (sym (size-made pre p r 2 at e)) (omega (arith, f))
       (sym (kind-made pre p r 2 at e)) (λ y. omega arith) refl (λ y. omega arith) m)
 
 end-number-made : (pre : List ℕ) (n at : ℕ) (e : at ≡ length pre) → wordAt (bytes pre (wordBytes n) [] 3 at e) (at + 6) ≡ n
@@ -108,7 +108,7 @@ end-made : (pre : List ℕ) (n at : ℕ) (e : at ≡ length pre) → blockAt (by
 end-made pre n at e =
     let f = fits-made pre (wordBytes n) [] 3 at e in
     sym
-    (blocks.end (bytes pre (wordBytes n) [] 3 at e) at 4 3 (omega (arith, f)) (omega (arith, f)) (sym (size-made pre (wordBytes n) [] 3 at e))
+    (blocks.end (bytes pre (wordBytes n) [] 3 at e) at 4 3 (sym (size-made pre (wordBytes n) [] 3 at e))
     (omega (arith, f)) (sym (kind-made pre (wordBytes n) [] 3 at e)) (λ y. omega arith) (λ y. omega arith) refl refl n (sym (end-number-made pre n at e)))
 
 -- ---- made, so sound

@@ -4,10 +4,7 @@ use Rattle.blocks.proofs.word.Statement.{statement}
 use Rattle.blocks.proofs.word.Tie as tie
 
 returns : tie.Need-returns
-returns c = word-of _ _ _ _ _ _ (c .before .before .before .byte .ensures .0) (c .before .before .byte2 .ensures .0) (c .before .byte3 .ensures .0) (c .byte4 .ensures .0)
+returns c = word-of _ _ _ _ (c .before .pair .ensures .0) (c .pair2 .ensures .0)
 
 pub word-spec : {M : Type 1} → statement M
-word-spec =
-    tie.close
-    (tie.spec (search needs) (search needs) (search needs) (search needs) (search needs) (search needs) (search needs) (search needs)
-    (search needs) (search needs) (search needs) (search needs) (search needs) returns)
+word-spec = tie.close (tie.spec (search needs) (search needs) (search needs) (search needs) (search needs) returns)
