@@ -122,7 +122,7 @@ fn block_at(s: &[u8], at: usize) -> Block
     block_by_kind(s, at, size)
 }
 
-// The same where a header and its payload stand whole: by the kind.
+// The same where header and payload are whole, by the kind.
 fn block_by_kind(s: &[u8], at: usize, size: usize) -> Block
     requires { ⌜ size ≡ wordAt (now s) at ⌝ }
     requires { ⌜ at + 6 + size ≤ length (now s) ⌝ }
