@@ -161,7 +161,6 @@ pub fn next(s: &[u8], p: Pass) -> Step
     let at = p.at;
     let left = p.left;
     let passed = p.frame;
-    let before = p.state;
     if at < passed {
         let heard = nothing_heard(s);
         return Step { heard, pass: p };
@@ -173,9 +172,8 @@ pub fn next(s: &[u8], p: Pass) -> Step
         }
         Found::At(first, rest) => {
             let end = first + 18;
-            let heard = hear(&s[first..end], before);
-            let said = heard.values;
-            let state = said.state;
+            let heard = hear(&s[first..end], p.state);
+            let state = heard.values.state;
             let frame = passed + 1;
             Step {
                 heard,
@@ -209,8 +207,7 @@ pub fn frame_heard(s: &[u8], k: usize) -> Heard
         match got {
             Got::Done => return heard,
             Got::Frame => {
-                let after = step.pass;
-                pass = after;
+                pass = step.pass;
                 ahead -= 1;
             }
         }
@@ -222,8 +219,7 @@ fn hear(bytes: &[u8], before: State) -> Heard
     ensures { λ r. ⌜ r ≡ heardIn before (now (bytes .entry)) ⌝ }
 {
     let reading = frame::read(bytes);
-    let indices = reading.indices;
-    let values = values::values_of(indices, before);
+    let values = values::values_of(reading.indices, before);
     Heard {
         got: Got::Frame,
         reading,
