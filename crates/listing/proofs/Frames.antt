@@ -10,15 +10,15 @@ use Rattle.record.specs.Fields.{tooLarge}
 use Rattle.record.specs.declared.Record.{Record}
 use Rattle.frame.specs.Answers.{readingOf}
 use Rattle.frame.specs.declared.Reading.{Reading}
-use Rattle.recording.specs.Blocks.{part}
-use Rattle.recording.specs.Walk.{longest}
-use Rattle.recording.specs.Frames.{afterHead, foundAt}
-use Rattle.recording.specs.Judged.{repairBy, breakBy, repairedIn, breaksFrom}
-use Rattle.recording.specs.Steps.{framesFrom, tallyOf}
-use Rattle.recording.specs.declared.Found.{Found}
-use Rattle.recording.specs.declared.Found.the-variants.{At, Nothing}
+use Rattle.blocks.specs.Blocks.{part}
+use Rattle.blocks.specs.Walk.{longest}
+use Rattle.blocks.specs.Frames.{afterHead, foundAt, framesFrom}
+use Rattle.recording.specs.Judged.{repairBy, breakBy, repairedIn, breaksFrom, tallyOf}
+use Rattle.blocks.specs.declared.Found.{Found}
+use Rattle.blocks.specs.declared.Found.the-variants.{At, Nothing}
 use Rattle.recording.specs.declared.Tally.{Tally}
-use Rattle.recording.proofs.Frames.{frames-none, frames-more, Counting, counting-start, counting-done, counting-on}
+use Rattle.blocks.proofs.Frames.{frames-none, frames-more}
+use Rattle.recording.proofs.Counts.{Counting, counting-start, counting-done, counting-on}
 use Rattle.text.specs.Laid.{laid, after}
 use Rattle.text.proofs.Laid.{laid-none, put-then}
 use Rattle.listing.specs.Lines.{frameLine, lastLine}

@@ -12,9 +12,9 @@ use Rattle.values.specs.Outcome.{outcomeOf, refusalOf}
 use Rattle.values.specs.Values.{delaysOf}
 use Rattle.values.specs.declared.Outcome.{Outcome}
 use Rattle.values.proofs.Laws.{outcome-expansion, heard-unless-one}
-use Rattle.recording.specs.Refusals as recording
-use Rattle.recording.specs.declared.Cause.{Cause}
-use Rattle.recording.specs.declared.Heading.{Heading}
+use Rattle.blocks.specs.Refusals as recording
+use Rattle.blocks.specs.declared.Cause.{Cause}
+use Rattle.blocks.specs.declared.Heading.{Heading}
 use Rattle.text.specs.Ascii.{ascii}
 use Rattle.text.specs.Decimal.{decimal, digitsIn}
 use Rattle.text.proofs.Laid.{put-then}

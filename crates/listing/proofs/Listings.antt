@@ -8,15 +8,14 @@ use borrow.Author.Tests.{eq-eqb, ne-eqb}
 use lib.Dec.{eqb}
 use lib.ListN.{length, take, drop, getD}
 use lib.Seq.{take-all}
-use Rattle.recording.specs.Walk.{longest, walkedOf}
-use Rattle.recording.specs.Frames.{afterHead, framesOf}
-use Rattle.recording.specs.Steps.{framesFrom}
-use Rattle.recording.specs.declared.Cause.{Cause}
-use Rattle.recording.specs.declared.Heading.{Heading}
-use Rattle.recording.specs.declared.Walked.{Walked}
-use Rattle.recording.specs.declared.Walked.the-variants.{Whole, Refused}
-use Rattle.recording.proofs.Walks.{whole-short}
-use Rattle.recording.proofs.Frames.{frames-whole}
+use Rattle.blocks.specs.Walk.{longest, walkedOf}
+use Rattle.blocks.specs.Frames.{afterHead, framesOf, framesFrom}
+use Rattle.blocks.specs.declared.Cause.{Cause}
+use Rattle.blocks.specs.declared.Heading.{Heading}
+use Rattle.blocks.specs.declared.Walked.{Walked}
+use Rattle.blocks.specs.declared.Walked.the-variants.{Whole, Refused}
+use Rattle.blocks.proofs.Walks.{whole-short}
+use Rattle.blocks.proofs.Frames.{frames-whole}
 use Rattle.text.specs.Laid.{laid, after}
 use Rattle.text.proofs.Laid.{put-then}
 use Rattle.listing.specs.Lines.{headLine, refusedLine}

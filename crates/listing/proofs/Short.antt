@@ -17,27 +17,27 @@ use Rattle.frame.specs.Answers.{readingOf}
 use Rattle.frame.specs.declared.Reading.{Reading}
 use Rattle.values.specs.Values.{delaysOf}
 use Rattle.values.proofs.Laws.{delays-within}
-use Rattle.recording.specs.Blocks.{wordAt, sizeAt, kindAt, blockAt}
-use Rattle.recording.specs.Walk.{longest, refuse, atEnd, met, stepOf, atStart, onward, walkFrom, walkedOf}
-use Rattle.recording.specs.Frames.{afterHead, foundAt, framesOf}
+use Rattle.blocks.specs.Blocks.{wordAt, sizeAt, kindAt, blockAt}
+use Rattle.blocks.specs.Walk.{longest, refuse, atEnd, met, stepOf, atStart, onward, walkFrom, walkedOf}
+use Rattle.blocks.specs.Frames.{afterHead, foundAt, framesOf, framesFrom}
 use Rattle.recording.specs.Judged.{repairedIn, breaksFrom}
-use Rattle.recording.specs.Refusals as recording
-use Rattle.recording.specs.Steps.{framesFrom}
-use Rattle.recording.specs.declared.Cause.{Cause}
-use Rattle.recording.specs.declared.Cause.the-variants.{TooLong, HeaderCut, PastEnd, WrongSize, UnknownKind, OutOfTurn, EndMissing, WrongCount, Extra}
-use Rattle.recording.specs.declared.Block.{Block}
-use Rattle.recording.specs.declared.Block.the-variants.{Head, Voice, End, Broken}
-use Rattle.recording.specs.declared.Found.{Found}
-use Rattle.recording.specs.declared.Found.the-variants.{At, Nothing}
-use Rattle.recording.specs.declared.Heading.{Heading}
-use Rattle.recording.specs.declared.Walk.{Walk}
-use Rattle.recording.specs.declared.Moved.{Moved}
-use Rattle.recording.specs.declared.Moved.the-variants.{On, Done}
-use Rattle.recording.specs.declared.Walked.{Walked}
-use Rattle.recording.specs.declared.Walked.the-variants.{Whole, Refused}
-use Rattle.recording.proofs.Blocks.{head-told}
-use Rattle.recording.proofs.Walks.{Further, Passed, passed-head, passed-voice, step-passed, step-further, end-room, whole-short}
-use Rattle.recording.proofs.Frames.{Within, found-within, frames-none, frames-more, frames-whole, repair-small, break-small, repaired-more, breaks-more}
+use Rattle.blocks.specs.Refusals as recording
+use Rattle.blocks.specs.declared.Cause.{Cause}
+use Rattle.blocks.specs.declared.Cause.the-variants.{TooLong, HeaderCut, PastEnd, WrongSize, UnknownKind, OutOfTurn, EndMissing, WrongCount, Extra}
+use Rattle.blocks.specs.declared.Block.{Block}
+use Rattle.blocks.specs.declared.Block.the-variants.{Head, Voice, End, Broken}
+use Rattle.blocks.specs.declared.Found.{Found}
+use Rattle.blocks.specs.declared.Found.the-variants.{At, Nothing}
+use Rattle.blocks.specs.declared.Heading.{Heading}
+use Rattle.blocks.specs.declared.Walk.{Walk}
+use Rattle.blocks.specs.declared.Moved.{Moved}
+use Rattle.blocks.specs.declared.Moved.the-variants.{On, Done}
+use Rattle.blocks.specs.declared.Walked.{Walked}
+use Rattle.blocks.specs.declared.Walked.the-variants.{Whole, Refused}
+use Rattle.blocks.proofs.Blocks.{head-told}
+use Rattle.blocks.proofs.Walks.{Further, Passed, passed-head, passed-voice, step-passed, step-further, end-room, whole-short}
+use Rattle.blocks.proofs.Frames.{Within, found-within, frames-none, frames-more, frames-whole}
+use Rattle.recording.proofs.Counts.{repair-small, break-small, repaired-more, breaks-more}
 use Rattle.text.specs.Ascii.{ascii}
 use Rattle.text.specs.Decimal.{decimal}
 use Rattle.text.proofs.Decimal.{decimal-most}

@@ -8,10 +8,10 @@ use Rattle.record.specs.declared.Record.{Record}
 use Rattle.frame.specs.declared.Reading.{Reading}
 use Rattle.values.specs.Outcome.{outcomeOf, refusalOf}
 use Rattle.values.specs.Values.{delaysOf}
-use Rattle.recording.specs.Walk.{longest}
-use Rattle.recording.specs.Refusals as recording
-use Rattle.recording.specs.declared.Cause.{Cause}
-use Rattle.recording.specs.declared.Heading.{Heading}
+use Rattle.blocks.specs.Walk.{longest}
+use Rattle.blocks.specs.Refusals as recording
+use Rattle.blocks.specs.declared.Cause.{Cause}
+use Rattle.blocks.specs.declared.Heading.{Heading}
 use Rattle.text.specs.Ascii.{ascii}
 use Rattle.text.specs.Decimal.{decimal}
 

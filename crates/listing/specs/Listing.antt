@@ -5,11 +5,11 @@ use Prim.Native.Nat.{ℕ, suc}
 use lib.Dec.{eqb}
 use lib.ListN.{length, drop}
 use Rattle.frame.specs.Answers.{readingOf}
-use Rattle.recording.specs.Walk.{walkedOf}
-use Rattle.recording.specs.Frames.{framesOf}
+use Rattle.blocks.specs.Walk.{walkedOf}
+use Rattle.blocks.specs.Frames.{framesOf}
 use Rattle.recording.specs.Judged.{repairedIn, breaksFrom}
-use Rattle.recording.specs.declared.Walked.{Walked}
-use Rattle.recording.specs.declared.Walked.the-variants.{Whole, Refused}
+use Rattle.blocks.specs.declared.Walked.{Walked}
+use Rattle.blocks.specs.declared.Walked.the-variants.{Whole, Refused}
 use Rattle.listing.specs.Lines.{headLine, frameLine, lastLine, refusedLine}
 use Rattle.listing.specs.declared.Listed.{Listed}
 use Rattle.listing.specs.declared.Listed.the-variants.{Text, WrongLength}

@@ -1,11 +1,11 @@
 // The listing of a recording: its text, byte for byte, laid into a lent buffer.
 // Each put lays its text after the last one, as far as there is room; that the whole text has room is asked once, of the listing.
+use blocks::Cause;
+use blocks::Found;
+use blocks::Heading;
+use blocks::Walked;
 use frame::Reading;
 use record::Record;
-use recording::Cause;
-use recording::Found;
-use recording::Heading;
-use recording::Walked;
 ghost use mathlib.Core.Path.{_≡_};
 ghost use mathlib.Core.List.{[], _∷_, _++_};
 ghost use Prim.Native.Nat.{_≤_};
@@ -14,10 +14,9 @@ ghost use Rattle.record.specs.Fields.{tooLarge};
 ghost use Rattle.values.specs.Values.{delaysOf};
 ghost use Rattle.text.specs.Decimal.{decimal};
 ghost use Rattle.text.specs.Laid.{laid, after};
-ghost use Rattle.recording.specs.Walk.{longest};
-ghost use Rattle.recording.specs.Frames.{afterHead};
-ghost use Rattle.recording.specs.Steps.{framesFrom};
-ghost use Rattle.recording.specs.Refusals.{refusalOf};
+ghost use Rattle.blocks.specs.Walk.{longest};
+ghost use Rattle.blocks.specs.Frames.{afterHead, framesFrom};
+ghost use Rattle.blocks.specs.Refusals.{refusalOf};
 ghost use Rattle.listing.specs.Lines.{headLine, fields, frameLine, lastLine, placeOf, refusedLine};
 ghost use Rattle.listing.specs.Listing.{bodyOf, listedOf, listingLeft};
 
@@ -35,7 +34,7 @@ pub fn list(s: &[u8], out: &mut [u8]) -> Listed
     if out.len() != 131072 {
         return Listed::WrongLength;
     }
-    match recording::walk_through(s) {
+    match blocks::walk_through(s) {
         Walked::Refused(cause) => {
             let end = put_refused(out, cause);
             Listed::Text(end)
@@ -82,7 +81,7 @@ fn put_frames(out: &mut [u8], start: usize, s: &[u8]) -> usize
     let mut repaired: u32 = 0;
     let mut breaks: u32 = 0;
     loop {
-        match recording::find(s, at, left) {
+        match blocks::find(s, at, left) {
             Found::Nothing => return put_last(out, end, repaired, breaks),
             Found::At(first, rest) => {
                 let next = first + 18;

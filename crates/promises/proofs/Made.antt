@@ -9,24 +9,24 @@ use native.Mathlib.Nat.{zero-add, add-zero}
 use native.Mathlib.Decide.{ℕ-discrete}
 use lib.ListN.{length, getD, take, drop, length-append, length-drop, take-append-drop, drop-of-length-le}
 use lib.Seq.{getD-append-add, drop-append-add, take-append-seam, drop-cons, drop-drop, take-add, length-take-le}
-use Rattle.recording.specs.Blocks.{pairAt, wordAt, blockAt, part}
-use Rattle.recording.specs.Walk.{pastHead, pastVoice, atStart, walkFrom, walkedOf}
-use Rattle.recording.specs.Frames.{voiceSize, voicesFrom, payloadsOf, voiceBlockOf, framesIn, framesOf}
+use Rattle.blocks.specs.Blocks.{pairAt, wordAt, blockAt, part}
+use Rattle.blocks.specs.Walk.{pastHead, pastVoice, atStart, walkFrom, walkedOf}
+use Rattle.blocks.specs.Frames.{voiceSize, voicesFrom, payloadsOf, voiceBlockOf, framesIn, framesOf}
 use Rattle.recording.specs.Judged.{judgedBy, judgedOf}
 use Rattle.promises.specs.Parts.{laid}
 use Rattle.promises.specs.Made.{pairBytes, wordBytes, block, voiceBlocks, made, MadeFrom, summaryOf, MadeIsSound, Bytes, SoundIsMade, NoTwo}
-use Rattle.recording.specs.declared.Block.the-variants.{Head, Voice, End}
-use Rattle.recording.specs.declared.Heading.{Heading}
-use Rattle.recording.specs.declared.Walked.{Walked}
-use Rattle.recording.specs.declared.Walked.the-variants.{Whole}
-use Rattle.recording.specs.declared.Walk.{Walk}
+use Rattle.blocks.specs.declared.Block.the-variants.{Head, Voice, End}
+use Rattle.blocks.specs.declared.Heading.{Heading}
+use Rattle.blocks.specs.declared.Walked.{Walked}
+use Rattle.blocks.specs.declared.Walked.the-variants.{Whole}
+use Rattle.blocks.specs.declared.Walk.{Walk}
 use Rattle.recording.specs.declared.Summary.{Summary}
 use Rattle.recording.specs.declared.Judged.{Judged}
 use Rattle.recording.specs.declared.Judged.the-variants as Judged
-use Rattle.recording.proofs.Blocks as blocks
-use Rattle.recording.proofs.Blocks.{Bounds}
-use Rattle.recording.proofs.Voices.{voice-bounds, voice-itself, end-no-voice, voices-none, voices-more}
-use Rattle.recording.proofs.Walks.{first-head, voice-passed, end-right, walk-on, walk-done, walked-from, whole-short}
+use Rattle.blocks.proofs.Blocks as blocks
+use Rattle.blocks.proofs.Blocks.{Bounds}
+use Rattle.blocks.proofs.Voices.{voice-bounds, voice-itself, end-no-voice, voices-none, voices-more}
+use Rattle.blocks.proofs.Walks.{first-head, voice-passed, end-right, walk-on, walk-done, walked-from, whole-short}
 use Rattle.promises.proofs.Whole.{Opened, whole-opened, frames-in-more, frames-in-none}
 use Rattle.promises.proofs.Parts.{sound-told, payloads-whole, frames-counted, voice-blocks-stand}
 
@@ -87,7 +87,7 @@ head-made : (unit number : ℕ) (r : List ℕ) → blockAt (block 1 (wordBytes u
 unfolding wordAt pairAt
 head-made unit number r =
     sym
-    (blocks.head (block 1 (wordBytes unit ++ wordBytes number) ++ r) 0 8 1 (omega arith) (omega arith) refl (omega arith) refl refl refl unit number
+    (blocks.head (block 1 (wordBytes unit ++ wordBytes number) ++ r) 0 8 1 refl (omega arith) refl refl refl unit number
     (sym (word-back unit)) (sym (word-back number)))
 
 module _ (pre p r : List ℕ) (at : ℕ) (e : at ≡ length pre) where
@@ -95,7 +95,7 @@ module _ (pre p r : List ℕ) (at : ℕ) (e : at ≡ length pre) where
   voice-made z m =
       let f = fits-made pre p r 2 at e in
       sym
-      (blocks.voice (bytes pre p r 2 at e) at (length p) 2 (omega (arith, f)) (omega (arith, f)) (sym (size-made pre p r 2 at e)) (omega (arith, f))
+      (blocks.voice (bytes pre p r 2 at e) at (length p) 2 (sym (size-made pre p r 2 at e)) (omega (arith, f))
       (sym (kind-made pre p r 2 at e)) (λ y. omega arith) refl (λ y. omega arith) m)
 
 end-number-made : (pre : List ℕ) (n at : ℕ) (e : at ≡ length pre) → wordAt (bytes pre (wordBytes n) [] 3 at e) (at + 6) ≡ n
@@ -108,7 +108,7 @@ end-made : (pre : List ℕ) (n at : ℕ) (e : at ≡ length pre) → blockAt (by
 end-made pre n at e =
     let f = fits-made pre (wordBytes n) [] 3 at e in
     sym
-    (blocks.end (bytes pre (wordBytes n) [] 3 at e) at 4 3 (omega (arith, f)) (omega (arith, f)) (sym (size-made pre (wordBytes n) [] 3 at e))
+    (blocks.end (bytes pre (wordBytes n) [] 3 at e) at 4 3 (sym (size-made pre (wordBytes n) [] 3 at e))
     (omega (arith, f)) (sym (kind-made pre (wordBytes n) [] 3 at e)) (λ y. omega arith) (λ y. omega arith) refl refl n (sym (end-number-made pre n at e)))
 
 -- ---- made, so sound

@@ -12,20 +12,21 @@ use Rattle.laws.proofs.Total.{total-cong}
 use Rattle.laws.proofs.Front.{counted}
 use Rattle.frame.specs.Answers.{readingOf}
 use Rattle.laws.specs.Turns.{turns}
-use Rattle.recording.specs.Blocks.{blockAt, part}
-use Rattle.recording.specs.Walk.{stepOf, walkFrom, walkedOf}
-use Rattle.recording.specs.Frames.{voiceSize, voicesFrom, afterHead, ifWhole, payloadsOf, voiceBlockOf, cut, eighteens, framesIn, framesOf}
+use Rattle.blocks.specs.Blocks.{blockAt, part}
+use Rattle.blocks.specs.Walk.{stepOf, walkFrom, walkedOf}
+use Rattle.blocks.specs.Frames.{voiceSize, voicesFrom, afterHead, ifWhole, payloadsOf, voiceBlockOf, cut, eighteens, framesIn, framesOf}
 use Rattle.recording.specs.Judged.{repairBy, repairedIn, breakBy, breaksFrom, judgedBy, judgedOf}
 use Rattle.promises.specs.Parts.{laid, placeOf, Stands, VoiceBlocksStand, joined, FramesAreAll, FramesAreLong, FramesFit, RefusedHasNone, EmptyRefused, EndCounts, frameAt, RepairsCounted, BreaksCounted}
-use Rattle.recording.specs.declared.Cause.{Cause}
-use Rattle.recording.specs.declared.Heading.{Heading}
-use Rattle.recording.specs.declared.Walked.{Walked}
-use Rattle.recording.specs.declared.Walked.the-variants.{Whole, Refused}
+use Rattle.blocks.specs.declared.Cause.{Cause}
+use Rattle.blocks.specs.declared.Heading.{Heading}
+use Rattle.blocks.specs.declared.Walked.{Walked}
+use Rattle.blocks.specs.declared.Walked.the-variants.{Whole, Refused}
 use Rattle.recording.specs.declared.Summary.{Summary}
 use Rattle.recording.specs.declared.Judged.the-variants as Judged
-use Rattle.recording.proofs.Voices.{Sized, voice-sized, voices-none, voices-more, block-refused}
-use Rattle.recording.proofs.Walks.{whole-short}
-use Rattle.recording.proofs.Frames.{repaired-more, breaks-more, frames-refused}
+use Rattle.blocks.proofs.Voices.{Sized, voice-sized, voices-none, voices-more, block-refused}
+use Rattle.blocks.proofs.Walks.{whole-short}
+use Rattle.blocks.proofs.Frames.{frames-refused}
+use Rattle.recording.proofs.Counts.{repaired-more, breaks-more}
 use Rattle.promises.proofs.Whole.{whole-opened, laid-more, laid-none, length-cut, frames-in-more, frames-in-none}
 
 -- ---- the voice blocks of a recording that is not refused, and of one that is

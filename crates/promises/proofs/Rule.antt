@@ -10,27 +10,27 @@ use borrow.Author.Tests.{eq-eqb, ne-eqb, lt-ltb, le-ltb}
 use lib.Dec.{eqb, ltb}
 use lib.ListN.{length, getD}
 use Rattle.laws.specs.Table.{both}
-use Rattle.recording.specs.Blocks.{wordAt, sizeAt, kindAt, blockAt}
-use Rattle.recording.specs.Walk.{longest, refuse, pastHead, pastVoice, stepOf, atStart, walkFrom, walkedOf}
-use Rattle.recording.specs.Frames.{framesOf}
+use Rattle.blocks.specs.Blocks.{wordAt, sizeAt, kindAt, blockAt}
+use Rattle.blocks.specs.Walk.{longest, refuse, pastHead, pastVoice, stepOf, atStart, walkFrom, walkedOf}
+use Rattle.blocks.specs.Frames.{framesOf}
 use Rattle.recording.specs.Judged.{judgedBy, judgedOf}
-use Rattle.recording.specs.Refusals.{refusalOf}
+use Rattle.blocks.specs.Refusals.{refusalOf}
 use Rattle.promises.specs.Rule.{rightSize, knownKind, inTurn, Condition, order, LowestFirst, Clean, ClearBefore, Reached, Given, Accepted, RefusedExactly, SoundExactly}
 use Rattle.promises.specs.Rule.Reached.{at-first, past-head, past-voice}
-use Rattle.recording.specs.declared.Cause.{Cause}
-use Rattle.recording.specs.declared.Cause.the-variants.{TooLong, HeaderCut, PastEnd, WrongSize, UnknownKind, OutOfTurn, EndMissing, WrongCount, Extra}
-use Rattle.recording.specs.declared.Block.the-variants.{Head, Voice, End, Broken}
-use Rattle.recording.specs.declared.Heading.{Heading}
-use Rattle.recording.specs.declared.Walked.{Walked}
-use Rattle.recording.specs.declared.Walked.the-variants.{Whole, Refused}
-use Rattle.recording.specs.declared.Walk.{Walk}
-use Rattle.recording.specs.declared.Moved.{Moved}
-use Rattle.recording.specs.declared.Moved.the-variants.{On, Done}
+use Rattle.blocks.specs.declared.Cause.{Cause}
+use Rattle.blocks.specs.declared.Cause.the-variants.{TooLong, HeaderCut, PastEnd, WrongSize, UnknownKind, OutOfTurn, EndMissing, WrongCount, Extra}
+use Rattle.blocks.specs.declared.Block.the-variants.{Head, Voice, End, Broken}
+use Rattle.blocks.specs.declared.Heading.{Heading}
+use Rattle.blocks.specs.declared.Walked.{Walked}
+use Rattle.blocks.specs.declared.Walked.the-variants.{Whole, Refused}
+use Rattle.blocks.specs.declared.Walk.{Walk}
+use Rattle.blocks.specs.declared.Moved.{Moved}
+use Rattle.blocks.specs.declared.Moved.the-variants.{On, Done}
 use Rattle.recording.specs.declared.Summary.{Summary}
 use Rattle.recording.specs.declared.Judged.{Judged}
 use Rattle.recording.specs.declared.Judged.the-variants as Judged
-use Rattle.recording.proofs.Blocks as blocks
-use Rattle.recording.proofs.Walks as walks
+use Rattle.blocks.proofs.Blocks as blocks
+use Rattle.blocks.proofs.Walks as walks
 
 -- ---- lowest number first
 
@@ -285,20 +285,11 @@ module _ (s : List ℕ) (w : Walk) (inside : w .at ≤ length s) (short : length
               clean-end h = clear-all s w (clear-more s w 8 clear-count (λ q. omega (arith, q .2)))
 
       -- a whole block, by its kind
-      starts : w .at < length s
-      starts = omega arith
-
-      headed : 6 ≤ length s - w .at
-      headed = omega arith
-
-      ends : wordAt s (w .at) ≤ length s - w .at - 6
-      ends = omega arith
-
       see-head : kindAt s (w .at) ≡ 1 → Seen s w (stepOf s w)
       see-head k = go (ℕ-discrete (wordAt s (w .at)) 8)
         where
           right : wordAt s (w .at) ≡ 8 → blockAt s (w .at) ≡ Head (wordAt s (w .at + 6)) (wordAt s (w .at + 10))
-          right e = sym (blocks.head s (w .at) (wordAt s (w .at)) (kindAt s (w .at)) starts headed refl ends refl k e (wordAt s (w .at + 6)) (wordAt s (w .at + 10)) refl refl)
+          right e = sym (blocks.head s (w .at) (wordAt s (w .at)) (kindAt s (w .at)) refl fits refl k e (wordAt s (w .at + 6)) (wordAt s (w .at + 10)) refl refl)
 
           turned : wordAt s (w .at) ≡ 8 → (b : Bool) → w .headed ≡ b → Seen s w (stepOf s w)
           turned e true h =
@@ -313,7 +304,7 @@ module _ (s : List ℕ) (w : Walk) (inside : w .at ≤ length s) (short : length
           go : Dec (wordAt s (w .at) ≡ 8) → Seen s w (stepOf s w)
           go (yes e) = turned e (w .headed) refl
           go (no n) =
-              see-size (blocks.wrong-head s (w .at) (wordAt s (w .at)) (kindAt s (w .at)) starts headed refl ends refl k n)
+              see-size (blocks.wrong-head s (w .at) (wordAt s (w .at)) (kindAt s (w .at)) refl fits refl k n)
               (right-head (wordAt s (w .at)) k ∙ ne-eqb (wordAt s (w .at)) 8 n)
 
       see-voice : kindAt s (w .at) ≡ 2 → Seen s w (stepOf s w)
@@ -332,16 +323,16 @@ module _ (s : List ℕ) (w : Walk) (inside : w .at ≤ length s) (short : length
 
           multiple : (wordAt s (w .at) ≡ 0 → ⊥) → Dec (wordAt s (w .at) % 18 ≡ 0) → Seen s w (stepOf s w)
           multiple z (yes e) =
-              turned (sym (blocks.voice s (w .at) (wordAt s (w .at)) (kindAt s (w .at)) starts headed refl ends refl n1 k z e))
+              turned (sym (blocks.voice s (w .at) (wordAt s (w .at)) (kindAt s (w .at)) refl fits refl n1 k z e))
               (right-voice (wordAt s (w .at)) k ∙ rw (lt-ltb 0 (wordAt s (w .at)) (omega (arith, z)), eq-eqb (wordAt s (w .at) % 18) 0 e))
               (w .headed) refl
           multiple z (no n) =
-              see-size (blocks.wrong-voice s (w .at) (wordAt s (w .at)) (kindAt s (w .at)) starts headed refl ends refl n1 k n)
+              see-size (blocks.wrong-voice s (w .at) (wordAt s (w .at)) (kindAt s (w .at)) refl fits refl n1 k n)
               (right-voice (wordAt s (w .at)) k ∙ rw (lt-ltb 0 (wordAt s (w .at)) (omega (arith, z)), ne-eqb (wordAt s (w .at) % 18) 0 n))
 
           empty : Dec (wordAt s (w .at) ≡ 0) → Seen s w (stepOf s w)
           empty (yes z) =
-              see-size (blocks.empty-voice s (w .at) (wordAt s (w .at)) (kindAt s (w .at)) starts headed refl ends refl n1 k z)
+              see-size (blocks.empty-voice s (w .at) (wordAt s (w .at)) (kindAt s (w .at)) refl fits refl n1 k z)
               (right-voice (wordAt s (w .at)) k ∙ rw (le-ltb 0 (wordAt s (w .at)) (omega arith)))
           empty (no z) = multiple z (ℕ-discrete (wordAt s (w .at) % 18) 0)
 
@@ -358,7 +349,7 @@ module _ (s : List ℕ) (w : Walk) (inside : w .at ≤ length s) (short : length
             there : blockAt s (w .at) ≡ End (wordAt s (w .at + 6))
             there =
                 sym
-                (blocks.end s (w .at) (wordAt s (w .at)) (kindAt s (w .at)) starts headed refl ends refl not-head not-voice k e (wordAt s (w .at + 6)) refl)
+                (blocks.end s (w .at) (wordAt s (w .at)) (kindAt s (w .at)) refl fits refl not-head not-voice k e (wordAt s (w .at + 6)) refl)
 
             sized : rightSize (kindAt s (w .at)) (wordAt s (w .at)) ≡ true
             sized = right-end (wordAt s (w .at)) k ∙ eq-eqb (wordAt s (w .at)) 4 e
@@ -388,7 +379,7 @@ module _ (s : List ℕ) (w : Walk) (inside : w .at ≤ length s) (short : length
         see-end : Dec (wordAt s (w .at) ≡ 4) → Seen s w (stepOf s w)
         see-end (yes e) = see-right-end e
         see-end (no n) =
-            see-size (blocks.wrong-end s (w .at) (wordAt s (w .at)) (kindAt s (w .at)) starts headed refl ends refl not-head not-voice k n)
+            see-size (blocks.wrong-end s (w .at) (wordAt s (w .at)) (kindAt s (w .at)) refl fits refl not-head not-voice k n)
             (right-end (wordAt s (w .at)) k ∙ ne-eqb (wordAt s (w .at)) 4 n)
 
       see-block : Dec (kindAt s (w .at) ≡ 1) → Dec (kindAt s (w .at) ≡ 2) → Dec (kindAt s (w .at) ≡ 3) → Seen s w (stepOf s w)
@@ -397,7 +388,7 @@ module _ (s : List ℕ) (w : Walk) (inside : w .at ≤ length s) (short : length
       see-block (no a) (no b) (yes c) = see-end c (ℕ-discrete (wordAt s (w .at)) 4)
       see-block (no a) (no b) (no c) =
           see-unknown (right-other (wordAt s (w .at)) a b c)
-          (blocks.unknown-kind s (w .at) (wordAt s (w .at)) (kindAt s (w .at)) starts headed refl ends refl a b c) (kind-other a b c)
+          (blocks.unknown-kind s (w .at) (wordAt s (w .at)) (kindAt s (w .at)) refl fits refl a b c) (kind-other a b c)
 
   -- any step
   seen : Seen s w (stepOf s w)

@@ -7,7 +7,7 @@ use native.Mathlib.Omega.{arith}
 use lib.ListN.{getD, take}
 use lib.Seq.{take-take, getD-take}
 use Rattle.values.specs.Values.{freshState}
-use Rattle.recording.specs.Frames.{framesOf}
+use Rattle.blocks.specs.Frames.{framesOf}
 use Rattle.recording.specs.Pass.{heardIn, stateThrough}
 use Rattle.promises.specs.Running.{StateRunsOn, NothingBeyond, PassHears, SoFarAlone}
 use Rattle.recording.proofs.Passes as passes

@@ -9,22 +9,22 @@ use lib.Dec.{eqb}
 use borrow.Author.Tests.{eqb-true, eqb-false}
 use lib.ListN.{length, drop, length-append, length-drop}
 use lib.Seq.{length-take-le}
-use Rattle.recording.specs.Blocks.{blockAt, part}
-use Rattle.recording.specs.Walk.{longest, refuse, pastHead, pastVoice, met, stepOf, atStart, walkFrom, walkedOf}
-use Rattle.recording.specs.Frames.{voicesFrom, cut, eighteens, framesIn}
+use Rattle.blocks.specs.Blocks.{blockAt, part}
+use Rattle.blocks.specs.Walk.{longest, refuse, pastHead, pastVoice, met, stepOf, atStart, walkFrom, walkedOf}
+use Rattle.blocks.specs.Frames.{voicesFrom, cut, eighteens, framesIn}
 use Rattle.promises.specs.Parts.{laid}
-use Rattle.recording.specs.declared.Cause.the-variants.{OutOfTurn, WrongCount, Extra}
-use Rattle.recording.specs.declared.Block.{Block}
-use Rattle.recording.specs.declared.Block.the-variants.{Head, Voice, End, Broken}
-use Rattle.recording.specs.declared.Heading.{Heading}
-use Rattle.recording.specs.declared.Walked.{Walked}
-use Rattle.recording.specs.declared.Walked.the-variants.{Whole}
-use Rattle.recording.specs.declared.Walk.{Walk}
-use Rattle.recording.specs.declared.Moved.{Moved}
-use Rattle.recording.specs.declared.Moved.the-variants.{On, Done}
-use Rattle.recording.proofs.Blocks.{voice-told}
-use Rattle.recording.proofs.Voices.{voice-itself, end-no-voice, voices-none, voices-more}
-use Rattle.recording.proofs.Walks.{Passed, passed-head, passed-voice, step-passed, step-further, walk-on, walk-done, walked-from}
+use Rattle.blocks.specs.declared.Cause.the-variants.{OutOfTurn, WrongCount, Extra}
+use Rattle.blocks.specs.declared.Block.{Block}
+use Rattle.blocks.specs.declared.Block.the-variants.{Head, Voice, End, Broken}
+use Rattle.blocks.specs.declared.Heading.{Heading}
+use Rattle.blocks.specs.declared.Walked.{Walked}
+use Rattle.blocks.specs.declared.Walked.the-variants.{Whole}
+use Rattle.blocks.specs.declared.Walk.{Walk}
+use Rattle.blocks.specs.declared.Moved.{Moved}
+use Rattle.blocks.specs.declared.Moved.the-variants.{On, Done}
+use Rattle.blocks.proofs.Blocks.{voice-told}
+use Rattle.blocks.proofs.Voices.{voice-itself, end-no-voice, voices-none, voices-more}
+use Rattle.blocks.proofs.Walks.{Passed, passed-head, passed-voice, step-passed, step-further, walk-on, walk-done, walked-from}
 
 -- a step to the end is one past an end block that was in its turn, told the right number, and was the last
 pub record Ended (s : List ℕ) (w : Walk) (h : Heading) : Type 0 where

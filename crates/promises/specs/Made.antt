@@ -3,8 +3,8 @@ use mathlib.Core.Path.{_≡_}
 use mathlib.Core.List.{List, [], _∷_, _++_}
 use Prim.Native.Nat.{ℕ, _/_, _%_, _<_, _≤_}
 use lib.ListN.{length, getD}
-use Rattle.recording.specs.Walk.{longest}
-use Rattle.recording.specs.Frames.{payloadsOf, framesIn}
+use Rattle.blocks.specs.Walk.{longest}
+use Rattle.blocks.specs.Frames.{payloadsOf, framesIn}
 use Rattle.recording.specs.Judged.{repairedIn, breaksFrom, judgedOf}
 use Rattle.recording.specs.declared.Summary.{Summary}
 use Rattle.recording.specs.declared.Judged.the-variants.{Sound}

@@ -5,11 +5,11 @@ use Prim.Native.Nat.{ℕ, suc, _+_, _-_, _*_, _%_, _<_, _≤_}
 use lib.ListN.{length, getD, take}
 use Rattle.laws.specs.Total.{total}
 use Rattle.frame.specs.Answers.{readingOf}
-use Rattle.recording.specs.Blocks.{part}
-use Rattle.recording.specs.Frames.{afterHead, payloadsOf, voiceBlockOf, eighteens, framesOf}
+use Rattle.blocks.specs.Blocks.{part}
+use Rattle.blocks.specs.Frames.{afterHead, payloadsOf, voiceBlockOf, eighteens, framesOf}
 use Rattle.recording.specs.Judged.{repairBy, breakBy, judgedOf}
-use Rattle.recording.specs.declared.Cause.{Cause}
-use Rattle.recording.specs.declared.Cause.the-variants.{EndMissing}
+use Rattle.blocks.specs.declared.Cause.{Cause}
+use Rattle.blocks.specs.declared.Cause.the-variants.{EndMissing}
 use Rattle.recording.specs.declared.Summary.{Summary}
 use Rattle.recording.specs.declared.Judged.the-variants.{Sound, Refused}
 

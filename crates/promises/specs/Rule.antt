@@ -8,13 +8,13 @@ use Prim.Native.Nat.{ℕ, _+_, _%_, _<_, _≤_}
 use lib.Dec.{eqb, ltb}
 use lib.ListN.{length}
 use Rattle.laws.specs.Table.{both}
-use Rattle.recording.specs.Blocks.{wordAt, sizeAt, kindAt}
-use Rattle.recording.specs.Walk.{longest, pastHead, pastVoice, atStart}
+use Rattle.blocks.specs.Blocks.{wordAt, sizeAt, kindAt}
+use Rattle.blocks.specs.Walk.{longest, pastHead, pastVoice, atStart}
 use Rattle.recording.specs.Judged.{judgedOf}
-use Rattle.recording.specs.Refusals.{refusalOf}
-use Rattle.recording.specs.declared.Cause.{Cause}
-use Rattle.recording.specs.declared.Cause.the-variants.{TooLong, HeaderCut, PastEnd, WrongSize, UnknownKind, OutOfTurn, EndMissing, WrongCount, Extra}
-use Rattle.recording.specs.declared.Walk.{Walk}
+use Rattle.blocks.specs.Refusals.{refusalOf}
+use Rattle.blocks.specs.declared.Cause.{Cause}
+use Rattle.blocks.specs.declared.Cause.the-variants.{TooLong, HeaderCut, PastEnd, WrongSize, UnknownKind, OutOfTurn, EndMissing, WrongCount, Extra}
+use Rattle.blocks.specs.declared.Walk.{Walk}
 use Rattle.recording.specs.declared.Summary.{Summary}
 use Rattle.recording.specs.declared.Judged.the-variants.{Sound, Refused}
 

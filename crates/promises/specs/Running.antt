@@ -4,7 +4,7 @@ use mathlib.Core.List.{List, []}
 use Prim.Native.Nat.{ℕ, suc, _<_, _≤_}
 use lib.ListN.{length, getD, take}
 use Rattle.values.specs.Values.{freshState}
-use Rattle.recording.specs.Frames.{framesOf}
+use Rattle.blocks.specs.Frames.{framesOf}
 use Rattle.recording.specs.Pass.{heardIn, nothingHeard, stateThrough, heardAt, nextOf, passAt}
 
 -- frame k + 1 is heard after the state that went through the k frames before it, across voice blocks; past the last there is nothing

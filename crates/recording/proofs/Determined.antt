@@ -1,40 +1,25 @@
--- Any two results that a public contract allows agree; of a part of the bytes, its list.
+-- Any two results that a public contract allows agree.
 -- Assumes nothing.
 use contract.Lifetimes.{Lfts}
-use denote.Ref.{now}
 use denote.Triple.Clauses.{AtExit}
 use borrow.Fn.Kinds.{Dens, resT, endedOf}
 use mathlib.Core.Path.{_≡_, _∙_, sym}
-use Rattle.recording.proofs.walk_through.Kinds as walk-through
-use Rattle.recording.proofs.walk_through.Reads as walk-through-reads
 use Rattle.recording.proofs.judge.Kinds as judge
 use Rattle.recording.proofs.judge.Reads as judge-reads
-use Rattle.recording.proofs.voice_block.Kinds as voice-block
-use Rattle.recording.proofs.voice_block.Reads as voice-block-reads
 use Rattle.recording.proofs.start.Kinds as start
 use Rattle.recording.proofs.start.Reads as start-reads
 use Rattle.recording.proofs.next.Kinds as next
 use Rattle.recording.proofs.next.Reads as next-reads
 use Rattle.recording.proofs.frame_heard.Kinds as frame-heard
 use Rattle.recording.proofs.frame_heard.Reads as frame-heard-reads
-use Rattle.recording.proofs.find.Kinds as find
-use Rattle.recording.proofs.find.Reads as find-reads
 use Rattle.recording.proofs.repair_by.Kinds as repair-by
 use Rattle.recording.proofs.repair_by.Reads as repair-by-reads
 use Rattle.recording.proofs.break_by.Kinds as break-by
 use Rattle.recording.proofs.break_by.Reads as break-by-reads
 
-pub walk-through-determined : (κs : Lfts 1) (a : Dens κs walk-through.ps) (r₁ r₂ : resT walk-through.r κs .Denot) (x₁ x₂ : AtExit (endedOf 1 walk-through.ps walk-through.r) κs)
-    → walk-through-reads.Post κs a r₁ x₁ → walk-through-reads.Post κs a r₂ x₂ → r₁ ≡ r₂
-walk-through-determined κs a r₁ r₂ x₁ x₂ p q = p ∙ sym q
-
 pub judge-determined : (κs : Lfts 1) (a : Dens κs judge.ps) (r₁ r₂ : resT judge.r κs .Denot) (x₁ x₂ : AtExit (endedOf 1 judge.ps judge.r) κs)
     → judge-reads.Post κs a r₁ x₁ → judge-reads.Post κs a r₂ x₂ → r₁ ≡ r₂
 judge-determined κs a r₁ r₂ x₁ x₂ p q = p ∙ sym q
-
-pub voice-block-determined : (κs : Lfts 1) (a : Dens κs voice-block.ps) (r₁ r₂ : resT voice-block.r κs .Denot) (x₁ x₂ : AtExit (endedOf 1 voice-block.ps voice-block.r) κs)
-    → voice-block-reads.Post κs a r₁ x₁ → voice-block-reads.Post κs a r₂ x₂ → now r₁ ≡ now r₂
-voice-block-determined κs a r₁ r₂ x₁ x₂ p q = p ∙ sym q
 
 pub start-determined : (κs : Lfts 1) (a : Dens κs start.ps) (r₁ r₂ : resT start.r κs .Denot) (x₁ x₂ : AtExit (endedOf 1 start.ps start.r) κs)
     → start-reads.Post κs a r₁ x₁ → start-reads.Post κs a r₂ x₂ → r₁ ≡ r₂
@@ -47,10 +32,6 @@ next-determined κs a r₁ r₂ x₁ x₂ p q = p ∙ sym q
 pub frame-heard-determined : (κs : Lfts 1) (a : Dens κs frame-heard.ps) (r₁ r₂ : resT frame-heard.r κs .Denot) (x₁ x₂ : AtExit (endedOf 1 frame-heard.ps frame-heard.r) κs)
     → frame-heard-reads.Post κs a r₁ x₁ → frame-heard-reads.Post κs a r₂ x₂ → r₁ ≡ r₂
 frame-heard-determined κs a r₁ r₂ x₁ x₂ p q = p ∙ sym q
-
-pub find-determined : (κs : Lfts 1) (a : Dens κs find.ps) (r₁ r₂ : resT find.r κs .Denot) (x₁ x₂ : AtExit (endedOf 1 find.ps find.r) κs)
-    → find-reads.Post κs a r₁ x₁ → find-reads.Post κs a r₂ x₂ → r₁ ≡ r₂
-find-determined κs a r₁ r₂ x₁ x₂ p q = p ∙ sym q
 
 pub repair-by-determined : (κs : Lfts 0) (a : Dens κs repair-by.ps) (r₁ r₂ : resT repair-by.r κs .Denot) (x₁ x₂ : AtExit (endedOf 0 repair-by.ps repair-by.r) κs)
     → repair-by-reads.Post κs a r₁ x₁ → repair-by-reads.Post κs a r₂ x₂ → r₁ ≡ r₂

@@ -1,6 +1,3 @@
-pub mod Blocks
-pub mod Walks
-pub mod Voices
-pub mod Frames
+pub mod Counts
 pub mod Passes
 pub mod Determined

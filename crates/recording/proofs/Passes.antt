@@ -13,25 +13,24 @@ use Rattle.frame.specs.declared.Reading.{Reading}
 use Rattle.values.specs.Values.{freshState, valuesOf}
 use Rattle.values.specs.declared.State.{State}
 use Rattle.values.specs.declared.Values.{Values}
-use Rattle.recording.specs.Blocks.{part}
-use Rattle.recording.specs.Walk.{walkedOf}
-use Rattle.recording.specs.Frames.{afterHead, ifWhole, framesOf, foundAt}
+use Rattle.blocks.specs.Blocks.{part}
+use Rattle.blocks.specs.Walk.{walkedOf}
+use Rattle.blocks.specs.Frames.{afterHead, ifWhole, framesOf, foundAt, framesFrom}
 use Rattle.recording.specs.Pass.{heardBy, heardIn, nothingHeard, stateThrough, heardOf, heardAt, startOf, stepBy, nextOf, passAt}
-use Rattle.recording.specs.Steps.{framesFrom}
-use Rattle.recording.specs.declared.Cause.{Cause}
-use Rattle.recording.specs.declared.Cause.the-variants.{EndMissing}
-use Rattle.recording.specs.declared.Heading.{Heading}
-use Rattle.recording.specs.declared.Walked.{Walked}
-use Rattle.recording.specs.declared.Walked.the-variants as Walked
-use Rattle.recording.specs.declared.Found.{Found}
-use Rattle.recording.specs.declared.Found.the-variants.{At, Nothing}
+use Rattle.blocks.specs.declared.Cause.{Cause}
+use Rattle.blocks.specs.declared.Cause.the-variants.{EndMissing}
+use Rattle.blocks.specs.declared.Heading.{Heading}
+use Rattle.blocks.specs.declared.Walked.{Walked}
+use Rattle.blocks.specs.declared.Walked.the-variants as Walked
+use Rattle.blocks.specs.declared.Found.{Found}
+use Rattle.blocks.specs.declared.Found.the-variants.{At, Nothing}
 use Rattle.recording.specs.declared.Got.the-variants.{Frame, Done}
 use Rattle.recording.specs.declared.Heard.{Heard}
 use Rattle.recording.specs.declared.Pass.{Pass}
 use Rattle.recording.specs.declared.Step.{Step}
-use Rattle.recording.proofs.Blocks.{nothing-left}
-use Rattle.recording.proofs.Voices.{broken-no-voice}
-use Rattle.recording.proofs.Frames.{no-voice, Within, found-within, frames-none, frames-more, frames-refused, frames-whole}
+use Rattle.blocks.proofs.Blocks.{nothing-left}
+use Rattle.blocks.proofs.Voices.{broken-no-voice}
+use Rattle.blocks.proofs.Frames.{no-voice, Within, found-within, frames-none, frames-more, frames-refused, frames-whole}
 
 -- the returns of `hear` and `nothing_heard`
 pub hear-frame : (before : State) (f : List ℕ) (r : Reading) (v : Values) → r ≡ readingOf f → v ≡ valuesOf (r .indices) before

@@ -4,10 +4,12 @@ use mathlib.Core.List.{List, [], _∷_}
 use Prim.Native.Nat.{ℕ, suc, _+_, _%_}
 use lib.Dec.{eqb}
 use Rattle.frame.specs.Answers.{readingOf}
-use Rattle.recording.specs.Walk.{walkedOf}
-use Rattle.recording.specs.Frames.{framesOf}
-use Rattle.recording.specs.declared.Walked.{Walked}
-use Rattle.recording.specs.declared.Walked.the-variants as Walked
+use Rattle.blocks.specs.Refusals.{refusalOf, tellsOf}
+use Rattle.blocks.specs.Walk.{walkedOf}
+use Rattle.blocks.specs.Frames.{framesOf}
+use Rattle.blocks.specs.declared.Walked.{Walked}
+use Rattle.blocks.specs.declared.Walked.the-variants as Walked
+use Rattle.recording.specs.declared.Tally.{Tally}
 use Rattle.recording.specs.declared.Judged.{Judged}
 use Rattle.recording.specs.declared.Judged.the-variants.{Sound, Refused}
 
@@ -31,6 +33,10 @@ unfoldable pub breaksFrom : ℕ → List (List ℕ) → ℕ
 breaksFrom n [] = 0
 breaksFrom n (f ∷ fs) = breakBy n (readingOf f .indices .sy) + breaksFrom (suc n) fs
 
+-- the counts of frames numbered from 1 on
+abbrev pub tallyOf : List (List ℕ) → Tally
+tallyOf frames = record { repaired = repairedIn frames; breaks = breaksFrom 1 frames }
+
 abbrev pub judgedBy : Walked → List (List ℕ) → Judged
 judgedBy (Walked.Whole h) frames =
     Sound
@@ -45,3 +51,12 @@ judgedBy (Walked.Refused cause) frames = Refused cause
 
 unfoldable pub judgedOf : List ℕ → Judged
 judgedOf s = judgedBy (walkedOf s) (framesOf s)
+
+-- the refusal of an answer and what it tells; 0 is no refusal
+abbrev pub judgedRefusal : Judged → ℕ
+judgedRefusal (Sound summary) = 0
+judgedRefusal (Refused cause) = refusalOf cause
+
+abbrev pub judgedTells : Judged → List ℕ
+judgedTells (Sound summary) = []
+judgedTells (Refused cause) = tellsOf cause

@@ -7,11 +7,11 @@ use lib.ListN.{length, getD, take}
 use Rattle.frame.specs.Answers.{readingOf}
 use Rattle.values.specs.Values.{freshState, valuesOf}
 use Rattle.values.specs.declared.State.{State}
-use Rattle.recording.specs.Blocks.{part}
-use Rattle.recording.specs.Walk.{walkedOf}
-use Rattle.recording.specs.Frames.{afterHead, ifWhole, framesOf, foundAt}
-use Rattle.recording.specs.declared.Found.{Found}
-use Rattle.recording.specs.declared.Found.the-variants.{At, Nothing}
+use Rattle.blocks.specs.Blocks.{part}
+use Rattle.blocks.specs.Walk.{walkedOf}
+use Rattle.blocks.specs.Frames.{afterHead, ifWhole, framesOf, foundAt}
+use Rattle.blocks.specs.declared.Found.{Found}
+use Rattle.blocks.specs.declared.Found.the-variants.{At, Nothing}
 use Rattle.recording.specs.declared.Got.{Got}
 use Rattle.recording.specs.declared.Got.the-variants.{Frame, Done}
 use Rattle.recording.specs.declared.Heard.{Heard}

@@ -1,68 +1,18 @@
-// A recording: blocks of bytes, walked one after the other to an answer; its voice blocks, and the frames in them in order.
-// A walk comes to a place of the bytes and knows what it has passed; what stands there takes it on or ends it.
+// The frames of a recording in order: how many are repaired or break the sync, and each one heard with the running state.
+// A pass stands before a frame and keeps the state after those that it has passed.
+use blocks::Cause;
+use blocks::Found;
+use blocks::Walked;
 use frame::Reading;
 use values::State;
 use values::Values;
 ghost use mathlib.Core.Path.{_≡_};
-ghost use mathlib.Core.List.{List, []};
-ghost use Prim.Native.Nat.{ℕ, _+_, _-_, _*_, _≤_, _<_};
-ghost use lib.ListN.{length, getD};
-ghost use Rattle.recording.specs.Blocks.{pairAt, wordAt, blockAt};
-ghost use Rattle.recording.specs.Walk.{longest, stepOf, walkedOf};
-ghost use Rattle.recording.specs.Frames.{voiceSize, voicesFrom, afterHead, voiceBlockOf, foundAt};
-ghost use Rattle.recording.specs.Judged.{repairBy, breakBy, judgedOf};
+ghost use Prim.Native.Nat.{_≤_};
+ghost use lib.ListN.{length};
+ghost use Rattle.blocks.specs.Walk.{longest};
+ghost use Rattle.blocks.specs.Frames.{afterHead, framesFrom};
+ghost use Rattle.recording.specs.Judged.{repairBy, breakBy, judgedOf, tallyOf};
 ghost use Rattle.recording.specs.Pass.{heardIn, nothingHeard, startOf, nextOf, heardAt};
-ghost use Rattle.recording.specs.Steps.{Spans, framesFrom, tallyOf};
-
-// Why a recording is refused, and the place that is told.
-pub enum Cause {
-    TooLong,
-    HeaderCut(usize),
-    PastEnd(usize),
-    WrongSize(usize),
-    UnknownKind(usize),
-    OutOfTurn(usize),
-    EndMissing(usize),
-    WrongCount(usize),
-    Extra(usize),
-}
-
-// What stands at a place: a head with unit and recording number, a voice block with its payload's size, an end with the number
-// that it tells, or why there is no block.
-pub enum Block {
-    Head(u32, u32),
-    Voice(usize),
-    End(u32),
-    Broken(Cause),
-}
-
-// What a sound recording's blocks tell: unit and recording number, and how many frames.
-pub struct Heading {
-    pub unit: u32,
-    pub number: u32,
-    pub frames: u32,
-}
-
-// What the blocks of a recording come to.
-pub enum Walked {
-    Whole(Heading),
-    Refused(Cause),
-}
-
-// A walk before the block at `at`: whether the head was passed and what it told, and how many frames were passed.
-pub struct Walk {
-    pub at: usize,
-    pub headed: bool,
-    pub unit: u32,
-    pub number: u32,
-    pub frames: u32,
-}
-
-// A step of a walk: past a block, or to the answer.
-pub enum Moved {
-    On(Walk),
-    Done(Walked),
-}
 
 // A sound recording told in numbers.
 pub struct Summary {
@@ -76,18 +26,6 @@ pub struct Summary {
 pub enum Judged {
     Sound(Summary),
     Refused(Cause),
-}
-
-// A part of the bytes, from its first to the one after its last.
-pub struct Span {
-    pub from: usize,
-    pub to: usize,
-}
-
-// The next frame: its first byte, and how many bytes of its voice block come after it.
-pub enum Found {
-    At(usize, usize),
-    Nothing,
 }
 
 // Repaired frames and sync breaks.
@@ -124,171 +62,11 @@ pub struct Step {
     pub pass: Pass,
 }
 
-// One byte as a wider number.
-fn byte(s: &[u8], at: usize) -> u32
-    requires { ⌜ at < length (now s) ⌝ }
-    ensures { λ r. ⌜ r ≡ getD (now (s .entry)) at 0 ⌝ }
-    ensures { λ r. ⌜ r < 256 ⌝ }
-{
-    s[at] as u32
-}
-
-// Two bytes as a number, the lower first.
-fn pair(s: &[u8], at: usize) -> u32
-    requires { ⌜ at + 2 ≤ length (now s) ⌝ }
-    ensures { λ r. ⌜ r ≡ pairAt (now (s .entry)) at ⌝ }
-{
-    let a = byte(s, at);
-    let second = at + 1;
-    let b = byte(s, second);
-    a + 256 * b
-}
-
-// Four bytes as a number, the lowest first.
-fn word(s: &[u8], at: usize) -> u32
-    requires { ⌜ at + 4 ≤ length (now s) ⌝ }
-    ensures { λ r. ⌜ r ≡ wordAt (now (s .entry)) at ⌝ }
-{
-    let a = byte(s, at);
-    let second = at + 1;
-    let b = byte(s, second);
-    let third = at + 2;
-    let c = byte(s, third);
-    let fourth = at + 3;
-    let d = byte(s, fourth);
-    a + 256 * (b + 256 * (c + 256 * d))
-}
-
-// What stands at any place of any bytes.
-fn block_at(s: &[u8], at: usize) -> Block
-    ensures { λ r. ⌜ r ≡ blockAt (now (s .entry)) at ⌝ }
-{
-    let long = s.len();
-    if long <= at {
-        return Block::Broken(Cause::EndMissing(long));
-    }
-    if long - at < 6 {
-        return Block::Broken(Cause::HeaderCut(at));
-    }
-    let size = word(s, at) as usize;
-    if long - at - 6 < size {
-        return Block::Broken(Cause::PastEnd(at));
-    }
-    let kind_at = at + 4;
-    let kind = pair(s, kind_at);
-    let body = at + 6;
-    if kind == 1 {
-        if size != 8 {
-            return Block::Broken(Cause::WrongSize(at));
-        }
-        let unit = word(s, body);
-        let number_at = at + 10;
-        let number = word(s, number_at);
-        return Block::Head(unit, number);
-    }
-    if kind == 2 {
-        if size == 0 {
-            return Block::Broken(Cause::WrongSize(at));
-        }
-        if size % 18 != 0 {
-            return Block::Broken(Cause::WrongSize(at));
-        }
-        return Block::Voice(size);
-    }
-    if kind == 3 {
-        if size != 4 {
-            return Block::Broken(Cause::WrongSize(at));
-        }
-        let told = word(s, body);
-        return Block::End(told);
-    }
-    Block::Broken(Cause::UnknownKind(at))
-}
-
-// One step of a walk.
-fn advance(s: &[u8], w: Walk) -> Moved
-    requires { ⌜ length (now s) ≤ longest ⌝ }
-    requires { ⌜ 18 * w .frames ≤ w .at ⌝ }
-    ensures { λ r. ⌜ r ≡ stepOf (now (s .entry)) w ⌝ }
-{
-    let at = w.at;
-    match block_at(s, at) {
-        Block::Broken(cause) => Moved::Done(Walked::Refused(cause)),
-        Block::Head(unit, number) => {
-            if w.headed {
-                return Moved::Done(Walked::Refused(Cause::OutOfTurn(at)));
-            }
-            let next = at + 14;
-            Moved::On(Walk {
-                at: next,
-                headed: true,
-                unit,
-                number,
-                frames: w.frames,
-            })
-        }
-        Block::Voice(size) => {
-            if w.headed {
-                let next = at + 6 + size;
-                let more = (size / 18) as u32;
-                let frames = w.frames + more;
-                return Moved::On(Walk {
-                    at: next,
-                    headed: w.headed,
-                    unit: w.unit,
-                    number: w.number,
-                    frames,
-                });
-            }
-            Moved::Done(Walked::Refused(Cause::OutOfTurn(at)))
-        }
-        Block::End(told) => {
-            if w.frames == 0 {
-                return Moved::Done(Walked::Refused(Cause::OutOfTurn(at)));
-            }
-            if told != w.frames {
-                return Moved::Done(Walked::Refused(Cause::WrongCount(at)));
-            }
-            let after = at + 10;
-            if s.len() != after {
-                return Moved::Done(Walked::Refused(Cause::Extra(after)));
-            }
-            Moved::Done(Walked::Whole(Heading {
-                unit: w.unit,
-                number: w.number,
-                frames: w.frames,
-            }))
-        }
-    }
-}
-
-// Walks through the blocks of any bytes: what a recording's head tells and its number of frames, or the refusal.
-pub fn walk_through(s: &[u8]) -> Walked
-    ensures { λ r. ⌜ r ≡ walkedOf (now (s .entry)) ⌝ }
-{
-    if 65536 < s.len() {
-        return Walked::Refused(Cause::TooLong);
-    }
-    let mut w = Walk {
-        at: 0,
-        headed: false,
-        unit: 0,
-        number: 0,
-        frames: 0,
-    };
-    loop {
-        match advance(s, w) {
-            Moved::On(next) => w = next,
-            Moved::Done(answer) => return answer,
-        }
-    }
-}
-
 // Judges any bytes: a sound recording with its counts, or the refusal.
 pub fn judge(s: &[u8]) -> Judged
     ensures { λ r. ⌜ r ≡ judgedOf (now (s .entry)) ⌝ }
 {
-    match walk_through(s) {
+    match blocks::walk_through(s) {
         Walked::Refused(cause) => Judged::Refused(cause),
         Walked::Whole(heading) => {
             let counts = count_frames(s);
@@ -303,85 +81,6 @@ pub fn judge(s: &[u8]) -> Judged
     }
 }
 
-// The payload of the k-th voice block, counted from 0, as that part of the bytes; the empty part where there is none.
-pub fn voice_block(s: &[u8], k: usize) -> &[u8]
-    ensures { λ r. ⌜ now r ≡ voiceBlockOf (now (s .entry)) k ⌝ }
-{
-    let span = voice_span(s, k);
-    let from = span.from;
-    let to = span.to;
-    &s[from..to]
-}
-
-// Where the payload of the k-th voice block stands; nowhere in a refused recording.
-fn voice_span(s: &[u8], k: usize) -> Span
-    ensures { λ r. ⌜ Spans (now (s .entry)) (voiceBlockOf (now (s .entry)) k) r ⌝ }
-{
-    match walk_through(s) {
-        Walked::Refused(_) => Span { from: 0, to: 0 },
-        Walked::Whole(_) => span_after_head(s, k),
-    }
-}
-
-// The same of the voice blocks that follow the first fourteen bytes.
-fn span_after_head(s: &[u8], k: usize) -> Span
-    ensures { λ r. ⌜ Spans (now (s .entry)) (getD (voicesFrom (now (s .entry)) afterHead) k []) r ⌝ }
-{
-    let mut at = 14;
-    let mut before = k;
-    loop {
-        let size = voice_size(s, at);
-        if size == 0 {
-            return Span { from: 0, to: 0 };
-        }
-        let from = at + 6;
-        let to = from + size;
-        if before == 0 {
-            return Span { from, to };
-        }
-        before -= 1;
-        at = to;
-    }
-}
-
-// The size of the payload of the voice block at a place; 0 where there is none.
-fn voice_size(s: &[u8], at: usize) -> usize
-    ensures { λ r. ⌜ r ≡ voiceSize (now (s .entry)) at ⌝ }
-{
-    match block_at(s, at) {
-        Block::Head(_, _) => 0,
-        Block::Voice(size) => size,
-        Block::End(_) => 0,
-        Block::Broken(_) => 0,
-    }
-}
-
-// The next frame from a place on, where `left` bytes of a voice block are left; with none left, the first of the voice block there.
-pub fn find(s: &[u8], at: usize, left: usize) -> Found
-    ensures { λ r. ⌜ r ≡ foundAt (now (s .entry)) at left ⌝ }
-{
-    if left == 0 {
-        let size = voice_size(s, at);
-        if size == 0 {
-            return Found::Nothing;
-        }
-        let first = at + 6;
-        let rest = size - 18;
-        return Found::At(first, rest);
-    }
-    if left < 18 {
-        return Found::Nothing;
-    }
-    if s.len() < 18 {
-        return Found::Nothing;
-    }
-    if s.len() - 18 < at {
-        return Found::Nothing;
-    }
-    let rest = left - 18;
-    Found::At(at, rest)
-}
-
 // The counts of all frames.
 fn count_frames(s: &[u8]) -> Tally
     requires { ⌜ length (now s) ≤ longest ⌝ }
@@ -393,7 +92,7 @@ fn count_frames(s: &[u8]) -> Tally
     let mut repaired: u32 = 0;
     let mut breaks: u32 = 0;
     loop {
-        match find(s, at, left) {
+        match blocks::find(s, at, left) {
             Found::Nothing => return Tally { repaired, breaks },
             Found::At(first, rest) => {
                 let end = first + 18;
@@ -439,7 +138,7 @@ pub fn start(s: &[u8]) -> Pass
     ensures { λ r. ⌜ r ≡ startOf (now (s .entry)) ⌝ }
 {
     let state = State::fresh();
-    match walk_through(s) {
+    match blocks::walk_through(s) {
         Walked::Whole(_) => Pass {
             at: 14,
             left: 0,
@@ -462,21 +161,19 @@ pub fn next(s: &[u8], p: Pass) -> Step
     let at = p.at;
     let left = p.left;
     let passed = p.frame;
-    let before = p.state;
     if at < passed {
         let heard = nothing_heard(s);
         return Step { heard, pass: p };
     }
-    match find(s, at, left) {
+    match blocks::find(s, at, left) {
         Found::Nothing => {
             let heard = nothing_heard(s);
             Step { heard, pass: p }
         }
         Found::At(first, rest) => {
             let end = first + 18;
-            let heard = hear(&s[first..end], before);
-            let said = heard.values;
-            let state = said.state;
+            let heard = hear(&s[first..end], p.state);
+            let state = heard.values.state;
             let frame = passed + 1;
             Step {
                 heard,
@@ -510,8 +207,7 @@ pub fn frame_heard(s: &[u8], k: usize) -> Heard
         match got {
             Got::Done => return heard,
             Got::Frame => {
-                let after = step.pass;
-                pass = after;
+                pass = step.pass;
                 ahead -= 1;
             }
         }
@@ -523,8 +219,7 @@ fn hear(bytes: &[u8], before: State) -> Heard
     ensures { λ r. ⌜ r ≡ heardIn before (now (bytes .entry)) ⌝ }
 {
     let reading = frame::read(bytes);
-    let indices = reading.indices;
-    let values = values::values_of(indices, before);
+    let values = values::values_of(reading.indices, before);
     Heard {
         got: Got::Frame,
         reading,

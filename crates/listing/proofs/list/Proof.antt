@@ -9,7 +9,7 @@ use Rattle.listing.proofs.list.Lts as lts
 use Rattle.listing.proofs.put_frames.Reads as put-frames-reads
 use Rattle.listing.proofs.put_head.Reads as put-head-reads
 use Rattle.listing.proofs.put_refused.Reads as put-refused-reads
-use Rattle.recording.proofs.walk_through.Reads as walk-through-reads
+use Rattle.blocks.proofs.walk_through.Reads as walk-through-reads
 
 -- src/lib.rt:36:9
 returns : tie.Need-returns

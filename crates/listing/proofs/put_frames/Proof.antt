@@ -1,6 +1,7 @@
 use Rattle.listing.proofs.Frames.{Listing, listing-start, listing-done, taken-fits, listing-on}
 use Rattle.listing.proofs.Puts.{put-length}
-use Rattle.recording.proofs.Frames.{Within, found-within, Counting, counting-on}
+use Rattle.blocks.proofs.Frames.{Within, found-within}
+use Rattle.recording.proofs.Counts.{Counting, counting-on}
 use borrow.Author.Needs.{needs}
 use lib.ListN.{length}
 use native.Mathlib.Omega.{arith}
@@ -14,7 +15,7 @@ use Rattle.frame.proofs.read.Reads as read-reads
 use Rattle.listing.proofs.put_last.Reads as put-last-reads
 use Rattle.listing.proofs.put_line.Reads as put-line-reads
 use Rattle.recording.proofs.break_by.Reads as break-by-reads
-use Rattle.recording.proofs.find.Reads as find-reads
+use Rattle.blocks.proofs.find.Reads as find-reads
 use Rattle.recording.proofs.repair_by.Reads as repair-by-reads
 
 abbrev Inv-loop : tie.InvT-loop

@@ -3,7 +3,8 @@ use Prim.Native.Nat.{_-_}
 use native.Mathlib.Omega.{arith}
 use lib.ListN.{length}
 use borrow.Author.Needs.{needs}
-use Rattle.recording.proofs.Frames.{Counting, counting-start, counting-done, counting-on, found-within}
+use Rattle.blocks.proofs.Frames.{found-within}
+use Rattle.recording.proofs.Counts.{Counting, counting-start, counting-done, counting-on}
 use Rattle.recording.proofs.count_frames.Statement.{statement}
 use Rattle.recording.proofs.count_frames.Tie as tie
 

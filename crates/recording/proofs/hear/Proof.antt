@@ -4,7 +4,7 @@ use Rattle.recording.proofs.hear.Statement.{statement}
 use Rattle.recording.proofs.hear.Tie as tie
 
 returns : tie.Need-returns
-returns c = hear-frame _ _ _ _ (c .before .before .read .ensures) (c .values-of .ensures)
+returns c = hear-frame _ _ _ _ (c .before .read .ensures) (c .values-of .ensures)
 
 pub hear-spec : {M : Type 1} → statement M
 hear-spec = tie.close (tie.spec (search needs) (search needs) returns)

@@ -1,0 +1,5 @@
+pub mod Blocks
+pub mod Walks
+pub mod Voices
+pub mod Frames
+pub mod Determined

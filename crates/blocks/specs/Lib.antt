@@ -1,0 +1,4 @@
+pub mod Refusals
+pub mod Blocks
+pub mod Walk
+pub mod Frames
