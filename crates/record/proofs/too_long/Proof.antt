@@ -73,18 +73,5 @@ returns-2 c = (nowhere _ _ (c .before .loop .inv .1) (c .loop-test .left), searc
 pub too-long-spec : {M : Type 1} → statement M
 too-long-spec =
     tie.close
-    (tie.spec
-    Inv-loop
-    μ-loop
-    loop-holds
-    mul-w
-    shared-slice-read-w
-    mul-if1
-    shared-slice-read-if1
-    shr-if1
-    add-result
-    returns
-    add-i
-    loop-less
-    loop-again
-    returns-2)
+    (tie.spec Inv-loop μ-loop loop-holds mul-w shared-slice-read-w mul-if1 shared-slice-read-if1 shr-if1 add-result returns add-i loop-less
+    loop-again returns-2)
