@@ -5,6 +5,7 @@ use mathlib.Core.Path.{_≡_, _∙_, sym, ap}
 use mathlib.Core.Bool.{true, false}
 use Prim.Native.Nat.{ℕ, _+_, _-_, _^_, _<_, _≤_}
 use native.Mathlib.Omega.{arith}
+use native.Mathlib.Nat.{add-sub-cancel}
 use native.Mathlib.Decide.{ℕ-discrete, decLe}
 use lib.ListN.{length, getD}
 use Rattle.laws.specs.Tabulate.{tabulate}
@@ -36,17 +37,11 @@ module _ (r : Record) where
 
   -- what stands in a field, by the list that holds it
   pub index-parameter : (k : ℕ) → k < 10 → indexOf r (k + 1) ≡ getD (r .lsp) k 0
-  index-parameter k h = rw (le-leb (k + 1) 10 (omega arith)) (ap (λ (n : ℕ). getD (r .lsp) n 0) place)
-    where
-      place : k + 1 - 1 ≡ k
-      place = omega arith
+  index-parameter k h = rw (le-leb (k + 1) 10 (omega arith)) (ap (λ (n : ℕ). getD (r .lsp) n 0) (add-sub-cancel k 1))
 
   pub index-subframe : (k : ℕ) → k < 16 → indexOf r (k + 11) ≡ getD (r .subframes) k 0
   index-subframe k h =
-      rw (lt-leb (k + 11) 10 (omega arith), le-leb (k + 11) 26 (omega arith)) (ap (λ (n : ℕ). getD (r .subframes) n 0) place)
-    where
-      place : k + 11 - 11 ≡ k
-      place = omega arith
+      rw (lt-leb (k + 11) 10 (omega arith), le-leb (k + 11) 26 (omega arith)) (ap (λ (n : ℕ). getD (r .subframes) n 0) (add-sub-cancel k 11))
 
 -- a record whose field f holds v f
 abbrev pub given : (ℕ → ℕ) → Record
