@@ -1,21 +1,21 @@
 -- Every bit of every field, and every parity bit, has exactly one place; so an index read has the bits at its places.
 -- Assumes nothing.
-use mathlib.Core.Path.{_≡_, _∙_, sym, refl, ap, subst}
+use mathlib.Core.Path.{_≡_, sym, subst}
 use mathlib.Core.Bool.{Bool}
-use Prim.Native.Nat.{ℕ, zero, suc, _+_, _-_, _^_, _<_, _≤_}
+use Prim.Native.Nat.{ℕ, zero, suc, _^_, _<_, _≤_}
 use native.Mathlib.Omega.{arith}
 use native.Mathlib.Numerals.{sub-one}
 use lib.Dec.{T, leb, leb→le, eqb, eqb→eq}
 use lib.ListN.{getD}
 use Rattle.laws.specs.Table.{both, every, allBelow}
-use Rattle.laws.specs.Total.{total, bit, fromBits}
+use Rattle.laws.specs.Total.{bit, fromBits}
 use Rattle.laws.proofs.Table.{at, each-of-four, below}
 use Rattle.laws.proofs.Bits.{fromBits-lt, bit-fromBits}
 use Rattle.laws.proofs.Collected.{Scattered, collected}
 use Rattle.frame.specs.Places.{Name, places, fieldOf, bitOf, fieldAt, bitIn, bitsIn, seek, placeOf}
 use Rattle.frame.specs.Places.Name.{HP}
-use Rattle.frame.specs.Frame.{share, valueOf}
-use Rattle.frame.proofs.Places.{length-places, field-below, bit-in-field, next}
+use Rattle.frame.specs.Frame.{valueOf}
+use Rattle.frame.proofs.Places.{length-places, field-below, bit-in-field}
 
 -- the test at one place: its bit has no earlier place
 here-first : ℕ → Name → Bool

@@ -2,9 +2,9 @@
 -- written frame, and flips.
 -- Assumes nothing.
 use mathlib.Core.Path.{_≡_, _∙_, sym, refl, ap}
-use mathlib.Core.Bool.{Bool, true, false, cond}
+use mathlib.Core.Bool.{cond}
 use mathlib.Core.List.{List}
-use Prim.Native.Nat.{ℕ, zero, suc, _+_, _-_, _*_, _/_, _%_, _^_, _<_, _≤_}
+use Prim.Native.Nat.{ℕ, zero, suc, _+_, _-_, _*_, _%_, _^_, _<_, _≤_}
 use native.Mathlib.Omega.{arith}
 use native.Mathlib.Decide.{ℕ-discrete}
 use native.Mathlib.Numerals.{sub-one}
@@ -20,8 +20,8 @@ use Rattle.record.specs.Fields.{indexOf, widthOf}
 use Rattle.record.specs.declared.Record.{Record}
 use Rattle.record.proofs.Laws.{index-given}
 use Rattle.frame.specs.Places.{fieldAt, bitIn, bitsIn, placeOf}
-use Rattle.frame.specs.Parity.{guardedPlace, check, numberOf, number, inverted, mended}
-use Rattle.frame.specs.Frame.{byteOf, shiftOf, bitAt, packed, share, valueOf, recordOf, sent, withParity, parityOf, frameOf}
+use Rattle.frame.specs.Parity.{guardedPlace, check, number, inverted, mended}
+use Rattle.frame.specs.Frame.{byteOf, shiftOf, bitAt, packed, share, valueOf, recordOf, sent, withParity, parityOf}
 use Rattle.frame.proofs.Fields.{value-collected, value-bit, field-small, bit-small, place-of-here, field-of-place, bit-of-place}
 use Rattle.frame.proofs.Mended.{guardedField, guardedBit, guarded-first, guarded-last, field-of-guarded, bit-of-guarded, guarded-apart, mended-same, mended-there}
 

@@ -2,19 +2,18 @@
 -- Assumes nothing.
 use mathlib.Core.Path.{_≡_, _∙_, sym, refl, ap, subst}
 use mathlib.Core.Bool.{Bool, true, false, cond}
-use mathlib.Core.List.{List, map}
+use mathlib.Core.List.{List}
 use Prim.Native.Nat.{ℕ, zero, suc, _+_, _-_, _*_, _/_, _%_, _^_, _<_, _≤_}
 use native.Mathlib.Omega.{arith}
 use native.Mathlib.Decide.{ℕ-discrete}
-use native.Mathlib.Numerals.{sub-one}
 use borrow.Author.Tests.{eq-eqb, ne-eqb}
 use lib.Bits.{bitXor, xor-lt}
 use lib.Dec.{T, eqb, eqb→eq, ltb, ltb→lt}
-use lib.ListN.{length, getD, set, length-set}
+use lib.ListN.{getD, set}
 use lib.Pow.{pow-lt}
 use lib.Seq.{getD-set-same, getD-set-other}
 use Rattle.laws.specs.Table.{every, both, allBelow}
-use Rattle.laws.specs.Total.{total, bit, fromBits}
+use Rattle.laws.specs.Total.{bit}
 use Rattle.laws.specs.Tabulate.{tabulate}
 use Rattle.laws.proofs.Table.{at, below, each-of-four}
 use Rattle.laws.proofs.Total.{total-cong}
@@ -22,9 +21,9 @@ use Rattle.laws.proofs.Tabulate.{length-tabulate, getD-tabulate, tabulate-cong}
 use Rattle.laws.proofs.Bits.{fromBits-lt, fromBits-cong, same-bits, bit-xor, bit-pow, bit-pow-other}
 use Rattle.frame.specs.Places.{Name, fieldOf, bitOf, fieldAt, bitIn, bitsIn, placeOf}
 use Rattle.frame.specs.Places.Name.{HP}
-use Rattle.frame.specs.Parity.{guarded, guardedName, guardedPlace, check, numberOf, number, inverted, invertedAt, mended}
+use Rattle.frame.specs.Parity.{guarded, guardedName, guardedPlace, check, numberOf, number, inverted, mended}
 use Rattle.frame.specs.Frame.{share, valueOf, recordOf}
-use Rattle.frame.specs.Steps.{guardedEntries, bitOfEntry, inverting, mendedFields, recordBy}
+use Rattle.frame.specs.Steps.{guardedEntries, inverting, mendedFields, recordBy}
 use Rattle.frame.proofs.Fields.{value-small, value-bit, place-first, place-last, field-of-place, bit-of-place}
 use Rattle.frame.proofs.Number.{guardedBits}
 

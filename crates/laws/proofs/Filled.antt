@@ -1,6 +1,6 @@
 -- A loop that fills a list from the front, one place a turn: the invariant `Filled`, how it starts, goes on and ends.
 -- Assumes nothing.
-use mathlib.Core.Path.{_≡_, _∙_, sym, refl, ap, subst}
+use mathlib.Core.Path.{_≡_, _∙_, sym, refl, subst}
 use mathlib.Core.List.{List}
 use Prim.Native.Nat.{ℕ, _+_, _<_, _≤_}
 use native.Mathlib.Omega.{arith}

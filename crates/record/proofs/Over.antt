@@ -1,9 +1,8 @@
 -- The loop of `too_long`, one turn at a time: what a shift tells of the next place, and what each return answers.
 -- Assumes nothing.
-use mathlib.Core.Path.{_≡_, _∙_, sym, refl, ap, subst}
-use mathlib.Core.Bool.{Bool, true, false}
+use mathlib.Core.Path.{_≡_}
 use mathlib.Core.List.{List}
-use Prim.Native.Nat.{ℕ, _+_, _-_, _/_, _^_, _<_, _≤_}
+use Prim.Native.Nat.{ℕ, _+_, _/_, _^_, _<_, _≤_}
 use native.Mathlib.Nat.{add-sub-cancel}
 use lib.ListN.{length, getD}
 use Rattle.laws.proofs.Lowest.{NoneUpTo, none-more, none-found, none-at-all}

@@ -1,7 +1,6 @@
 -- `codebook::write_code` meets its contract: the answers of Codes.antt, at the code's own numbers.
 -- Assumes nothing.
 use native.Mathlib.Omega.{arith}
-use borrow.Author.Needs.{needs}
 use Rattle.codebook.specs.Book.{book}
 use Rattle.codebook.proofs.Codes.{refused-length, refused-index, laid}
 use Rattle.codebook.proofs.write_code.Statement.{statement}

@@ -2,7 +2,7 @@
 -- `near` away, and the lowest such. Each turn is one of `Down`.
 -- Assumes nothing.
 use native.Mathlib.Omega.{arith}
-use borrow.Author.Needs.{needs, sfits-of}
+use borrow.Author.Needs.{sfits-of}
 use lib.ListN.{length}
 use mir.Syntax.{w32}
 use mir.Val.{toZ}

@@ -2,7 +2,6 @@
 -- Assumes nothing.
 use Prim.Native.Nat.{_+_, _-_, _*_}
 use native.Mathlib.Omega.{arith}
-use borrow.Author.Needs.{needs}
 use Rattle.laws.proofs.Filled.{filled-none}
 use Rattle.gateway.proofs.Pairs.{Put, put-fewer, put-lsp, put-subframe, put-sp, put-whole}
 use Rattle.gateway.proofs.put.Statement.{statement}

@@ -3,7 +3,6 @@
 use mathlib.Core.Path.{refl}
 use Prim.Native.Nat.{_-_}
 use native.Mathlib.Omega.{arith}
-use borrow.Author.Needs.{needs}
 use Rattle.laws.proofs.Filled.{filled-none}
 use Rattle.gateway.proofs.Pairs.{TakenLsp, TakenSubframes, take-lsp, take-subframe, take-whole}
 use Rattle.gateway.proofs.take.Statement.{statement}

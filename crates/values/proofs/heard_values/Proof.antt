@@ -3,7 +3,6 @@
 use mathlib.Core.Path.{_∙_, ap}
 use lib.ListN.{length}
 use native.Mathlib.Omega.{arith}
-use borrow.Author.Needs.{needs}
 use Rattle.gains.proofs.Laws.{cg-length, pg-length}
 use Rattle.values.specs.Values.{cgIndex, pgIndex, inSubframes}
 use Rattle.values.proofs.Laws.{cg-index-small, pg-index-small}

@@ -2,7 +2,6 @@
 -- Assumes nothing.
 use Rattle.codebook.proofs.Drawing.{drawn}
 use native.Mathlib.Omega.{arith}
-use borrow.Author.Needs.{needs}
 use Rattle.codebook.proofs.Generator.draw.Statement.{statement}
 use Rattle.codebook.proofs.Generator.draw.Tie as tie
 
