@@ -1,4 +1,3 @@
-pub mod Copying
 pub mod Codes
 pub mod Sixteen
 pub mod Drawing

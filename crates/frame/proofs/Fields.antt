@@ -1,21 +1,21 @@
 -- Every bit of every field, and every parity bit, has exactly one place; so an index read has the bits at its places.
 -- Assumes nothing.
-use mathlib.Core.Path.{_≡_, _∙_, sym, refl, ap, subst}
+use mathlib.Core.Path.{_≡_, sym, subst}
 use mathlib.Core.Bool.{Bool}
-use Prim.Native.Nat.{ℕ, zero, suc, _+_, _-_, _^_, _<_, _≤_}
+use Prim.Native.Nat.{ℕ, zero, suc, _^_, _<_, _≤_}
 use native.Mathlib.Omega.{arith}
 use native.Mathlib.Numerals.{sub-one}
 use lib.Dec.{T, leb, leb→le, eqb, eqb→eq}
 use lib.ListN.{getD}
 use Rattle.laws.specs.Table.{both, every, allBelow}
-use Rattle.laws.specs.Total.{total, bit, fromBits}
-use Rattle.laws.proofs.Table.{at, both-left, both-right, below}
+use Rattle.laws.specs.Total.{bit, fromBits}
+use Rattle.laws.proofs.Table.{at, each-of-four, below}
 use Rattle.laws.proofs.Bits.{fromBits-lt, bit-fromBits}
 use Rattle.laws.proofs.Collected.{Scattered, collected}
 use Rattle.frame.specs.Places.{Name, places, fieldOf, bitOf, fieldAt, bitIn, bitsIn, seek, placeOf}
 use Rattle.frame.specs.Places.Name.{HP}
-use Rattle.frame.specs.Frame.{share, valueOf}
-use Rattle.frame.proofs.Places.{length-places, field-below, bit-in-field, next}
+use Rattle.frame.specs.Frame.{valueOf}
+use Rattle.frame.proofs.Places.{length-places, field-below, bit-in-field}
 
 -- the test at one place: its bit has no earlier place
 here-first : ℕ → Name → Bool
@@ -38,29 +38,25 @@ all-found = tt
 
 -- the place of a bit of a field
 module _ (f i : ℕ) (h : f < 29) (l : i < bitsIn f) where
-  here : T (found-at f i (placeOf f i))
-  unfolding found
-  here = below (λ (i : ℕ). found-at f i (placeOf f i)) (bitsIn f) (below found 29 all-found f h) i l
+  told : (1 ≤ placeOf f i) × (placeOf f i ≤ 144) × (fieldAt (placeOf f i) ≡ f) × (bitIn (placeOf f i) ≡ i)
+  unfolding found found-at
+  told =
+      let p = placeOf f i in
+      let t = each-of-four (leb 1 p) (leb p 144) (eqb (fieldAt p) f) (eqb (bitIn p) i)
+      (below (λ (i : ℕ). found-at f i (placeOf f i)) (bitsIn f) (below found 29 all-found f h) i l) in
+      (leb→le 1 p (t .0), leb→le p 144 (t .1), eqb→eq (fieldAt p) f (t .2), eqb→eq (bitIn p) i (t .3))
 
   pub place-first : 1 ≤ placeOf f i
-  unfolding found-at
-  place-first = leb→le 1 (placeOf f i) (both-left (leb 1 (placeOf f i)) _ here)
-
-  rest : T (both (leb (placeOf f i) 144) (both (eqb (fieldAt (placeOf f i)) f) (eqb (bitIn (placeOf f i)) i)))
-  unfolding found-at
-  rest = both-right (leb 1 (placeOf f i)) _ here
+  place-first = told .0
 
   pub place-last : placeOf f i ≤ 144
-  place-last = leb→le (placeOf f i) 144 (both-left (leb (placeOf f i) 144) (both (eqb (fieldAt (placeOf f i)) f) (eqb (bitIn (placeOf f i)) i)) rest)
-
-  named : T (both (eqb (fieldAt (placeOf f i)) f) (eqb (bitIn (placeOf f i)) i))
-  named = both-right (leb (placeOf f i) 144) (both (eqb (fieldAt (placeOf f i)) f) (eqb (bitIn (placeOf f i)) i)) rest
+  place-last = told .1
 
   pub field-of-place : fieldAt (placeOf f i) ≡ f
-  field-of-place = eqb→eq (fieldAt (placeOf f i)) f (both-left (eqb (fieldAt (placeOf f i)) f) (eqb (bitIn (placeOf f i)) i) named)
+  field-of-place = told .2
 
   pub bit-of-place : bitIn (placeOf f i) ≡ i
-  bit-of-place = eqb→eq (bitIn (placeOf f i)) i (both-right (eqb (fieldAt (placeOf f i)) f) (eqb (bitIn (placeOf f i)) i) named)
+  bit-of-place = told .3
 
 -- and of each place the bit that stands there
 pub field-small : (p : ℕ) → 1 ≤ p → p ≤ 144 → fieldAt p < 29

@@ -1,28 +1,27 @@
 -- Laws about the bits of a frame, for whoever reasons about reading and writing: packing, what reading depends on, the parity of a
 -- written frame, and flips.
 -- Assumes nothing.
-use mathlib.Core.Path.{_≡_, _∙_, sym, refl, ap, subst}
-use mathlib.Core.Bool.{Bool, true, false, cond}
+use mathlib.Core.Path.{_≡_, _∙_, sym, refl, ap}
+use mathlib.Core.Bool.{cond}
 use mathlib.Core.List.{List}
-use Prim.Native.Nat.{ℕ, zero, suc, _+_, _-_, _*_, _/_, _%_, _^_, _<_, _≤_}
+use Prim.Native.Nat.{ℕ, zero, suc, _+_, _-_, _*_, _%_, _^_, _<_, _≤_}
 use native.Mathlib.Omega.{arith}
-use native.Mathlib.Decide.{ℕ-discrete, decLe}
+use native.Mathlib.Decide.{ℕ-discrete}
 use native.Mathlib.Numerals.{sub-one}
 use borrow.Author.Tests.{eq-eqb, ne-eqb}
 use lib.Dec.{eqb}
 use lib.ListN.{length, getD}
-use lib.Seq.{ext-getD}
 use Rattle.laws.specs.Total.{total, bit, fromBits}
 use Rattle.laws.specs.Tabulate.{tabulate}
 use Rattle.laws.proofs.Total.{total-cong, total-parity, total-one, total-two}
-use Rattle.laws.proofs.Tabulate.{length-tabulate, getD-tabulate, tabulate-cong}
+use Rattle.laws.proofs.Tabulate.{length-tabulate, getD-tabulate, tabulate-is, tabulate-cong}
 use Rattle.laws.proofs.Bits.{fromBits-lt, fromBits-cong, fromBits-bit, bit-fromBits, bit-zero, same-bits}
 use Rattle.record.specs.Fields.{indexOf, widthOf}
 use Rattle.record.specs.declared.Record.{Record}
-use Rattle.record.proofs.Laws.{index-parameter, index-subframe}
+use Rattle.record.proofs.Laws.{index-given}
 use Rattle.frame.specs.Places.{fieldAt, bitIn, bitsIn, placeOf}
-use Rattle.frame.specs.Parity.{guardedPlace, check, numberOf, number, inverted, mended}
-use Rattle.frame.specs.Frame.{byteOf, shiftOf, bitAt, packed, share, valueOf, recordOf, sent, withParity, parityOf, frameOf}
+use Rattle.frame.specs.Parity.{guardedPlace, check, number, inverted, mended}
+use Rattle.frame.specs.Frame.{byteOf, shiftOf, bitAt, packed, share, valueOf, recordOf, sent, withParity, parityOf}
 use Rattle.frame.proofs.Fields.{value-collected, value-bit, field-small, bit-small, place-of-here, field-of-place, bit-of-place}
 use Rattle.frame.proofs.Mended.{guardedField, guardedBit, guarded-first, guarded-last, field-of-guarded, bit-of-guarded, guarded-apart, mended-same, mended-there}
 
@@ -62,16 +61,13 @@ bit-of-byte s k i h = rw (byte, shift)
 -- eighteen bytes are packed from their bits
 pub packed-bits : (s : List ℕ) → length s ≡ 18 → ((k : ℕ) → k < 18 → getD s k 0 < 256) → packed (bitAt s) ≡ s
 unfolding packed
-packed-bits s long bytes = ext-getD 0 (tabulate f 18) s (length-tabulate f 18 ∙ sym long) here
+packed-bits s long bytes = tabulate-is f 0 s 18 long byte
   where
     f : ℕ → ℕ
     f k = fromBits (λ i. bitAt s (8 * k + 8 - i)) 8
 
     byte : (k : ℕ) → k < 18 → f k ≡ getD s k 0
     byte k h = fromBits-cong (λ i. bitAt s (8 * k + 8 - i)) (bit (getD s k 0)) 8 (λ i l. bit-of-byte s k i l) ∙ fromBits-bit 8 (getD s k 0) (bytes k h)
-
-    here : (k : ℕ) → k < length (tabulate f 18) → getD (tabulate f 18) k 0 ≡ getD s k 0
-    here k h = let l : k < 18 = subst (λ (n : ℕ). k < n) (length-tabulate f 18) h in getD-tabulate f 0 18 k l ∙ byte k l
 
 -- reading looks at the places 1 to 144 alone
 module _ (b c : ℕ → ℕ) (same : (p : ℕ) → 1 ≤ p → p ≤ 144 → b p ≡ c p) where
@@ -246,25 +242,7 @@ written-clean r =
 
 -- what is read in the bits b: the index in each field of the record
 pub index-of-record : (b : ℕ → ℕ) (f : ℕ) → 1 ≤ f → f ≤ 28 → indexOf (recordOf b) f ≡ valueOf b f
-index-of-record b f a l = parameter (decLe f 10)
-  where
-    last : Dec (f ≡ 27) → 26 < f → indexOf (recordOf b) f ≡ valueOf b f
-    last (yes e) h = rw e
-    last (no e) h = let w : f ≡ 28 = omega arith in rw w
-
-    subframe : Dec (f ≤ 26) → 10 < f → indexOf (recordOf b) f ≡ valueOf b f
-    subframe (yes q) h =
-        let back : f - 11 + 11 ≡ f = omega arith in
-        ap (indexOf (recordOf b)) (sym back) ∙ index-subframe (recordOf b) (f - 11) (omega arith)
-        ∙ getD-tabulate (λ k. valueOf b (k + 11)) 0 16 (f - 11) (omega arith) ∙ ap (valueOf b) back
-    subframe (no q) h = last (ℕ-discrete f 27) (omega arith)
-
-    parameter : Dec (f ≤ 10) → indexOf (recordOf b) f ≡ valueOf b f
-    parameter (yes q) =
-        let back : f - 1 + 1 ≡ f = omega arith in
-        ap (indexOf (recordOf b)) (sym back) ∙ index-parameter (recordOf b) (f - 1) (omega arith)
-        ∙ getD-tabulate (λ k. valueOf b (k + 1)) 0 10 (f - 1) (omega arith) ∙ ap (valueOf b) back
-    parameter (no q) = subframe (decLe f 26) (omega arith)
+index-of-record b f a l = index-given (valueOf b) f a l
 
 -- a field's width is the record's
 pub bits-width : (f : ℕ) → 1 ≤ f → bitsIn f ≡ widthOf f

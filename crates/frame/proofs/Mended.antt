@@ -2,29 +2,28 @@
 -- Assumes nothing.
 use mathlib.Core.Path.{_≡_, _∙_, sym, refl, ap, subst}
 use mathlib.Core.Bool.{Bool, true, false, cond}
-use mathlib.Core.List.{List, map}
+use mathlib.Core.List.{List}
 use Prim.Native.Nat.{ℕ, zero, suc, _+_, _-_, _*_, _/_, _%_, _^_, _<_, _≤_}
 use native.Mathlib.Omega.{arith}
 use native.Mathlib.Decide.{ℕ-discrete}
-use native.Mathlib.Numerals.{sub-one}
 use borrow.Author.Tests.{eq-eqb, ne-eqb}
 use lib.Bits.{bitXor, xor-lt}
 use lib.Dec.{T, eqb, eqb→eq, ltb, ltb→lt}
-use lib.ListN.{length, getD, set, length-set}
+use lib.ListN.{getD, set}
 use lib.Pow.{pow-lt}
 use lib.Seq.{getD-set-same, getD-set-other}
 use Rattle.laws.specs.Table.{every, both, allBelow}
-use Rattle.laws.specs.Total.{total, bit, fromBits}
+use Rattle.laws.specs.Total.{bit}
 use Rattle.laws.specs.Tabulate.{tabulate}
-use Rattle.laws.proofs.Table.{at, below, both-left, both-right}
+use Rattle.laws.proofs.Table.{at, below, each-of-four}
 use Rattle.laws.proofs.Total.{total-cong}
 use Rattle.laws.proofs.Tabulate.{length-tabulate, getD-tabulate, tabulate-cong}
 use Rattle.laws.proofs.Bits.{fromBits-lt, fromBits-cong, same-bits, bit-xor, bit-pow, bit-pow-other}
 use Rattle.frame.specs.Places.{Name, fieldOf, bitOf, fieldAt, bitIn, bitsIn, placeOf}
 use Rattle.frame.specs.Places.Name.{HP}
-use Rattle.frame.specs.Parity.{guarded, guardedName, guardedPlace, check, numberOf, number, inverted, invertedAt, mended}
+use Rattle.frame.specs.Parity.{guarded, guardedName, guardedPlace, check, numberOf, number, inverted, mended}
 use Rattle.frame.specs.Frame.{share, valueOf, recordOf}
-use Rattle.frame.specs.Steps.{guardedEntries, bitOfEntry, inverting, mendedFields, recordBy}
+use Rattle.frame.specs.Steps.{guardedEntries, inverting, mendedFields, recordBy}
 use Rattle.frame.proofs.Fields.{value-small, value-bit, place-first, place-last, field-of-place, bit-of-place}
 use Rattle.frame.proofs.Number.{guardedBits}
 
@@ -52,31 +51,27 @@ place-is zero a = absurd (omega arith)
 place-is (suc n) a = refl
 
 module _ (n : ℕ) (a : 1 ≤ n) (h : n ≤ 15) where
-  here : T (sound (n - 1) (guardedName n))
-  here = at (HP 0) sound guarded all-sound (n - 1) below
-    where
-      below : n - 1 < 15
-      below = omega arith
+  sound-here : (guardedField n < 29) × (guardedBit n < bitsIn (guardedField n))
+      × (getD guardedEntries (n - 1) 0 / 16 ≡ guardedField n) × (getD guardedEntries (n - 1) 0 % 16 ≡ guardedBit n)
+  unfolding sound
+  sound-here =
+      let f = guardedField n in
+      let i = guardedBit n in
+      let e = getD guardedEntries (n - 1) 0 in
+      let t = each-of-four (ltb f 29) (ltb i (bitsIn f)) (eqb (e / 16) f) (eqb (e % 16) i) (at (HP 0) sound guarded all-sound (n - 1) (omega arith)) in
+      (ltb→lt f 29 (t .0), ltb→lt i (bitsIn f) (t .1), eqb→eq (e / 16) f (t .2), eqb→eq (e % 16) i (t .3))
 
   pub guarded-field-small : guardedField n < 29
-  unfolding sound
-  guarded-field-small = ltb→lt (guardedField n) 29 (both-left (ltb (guardedField n) 29) _ here)
-
-  rest : T (both (ltb (guardedBit n) (bitsIn (guardedField n))) (both (eqb (getD guardedEntries (n - 1) 0 / 16) (guardedField n)) (eqb (getD guardedEntries (n - 1) 0 % 16) (guardedBit n))))
-  unfolding sound
-  rest = both-right (ltb (guardedField n) 29) _ here
+  guarded-field-small = sound-here .0
 
   pub guarded-bit-small : guardedBit n < bitsIn (guardedField n)
-  guarded-bit-small = ltb→lt (guardedBit n) (bitsIn (guardedField n)) (both-left (ltb (guardedBit n) (bitsIn (guardedField n))) (both (eqb (getD guardedEntries (n - 1) 0 / 16) (guardedField n)) (eqb (getD guardedEntries (n - 1) 0 % 16) (guardedBit n))) rest)
-
-  parts : T (both (eqb (getD guardedEntries (n - 1) 0 / 16) (guardedField n)) (eqb (getD guardedEntries (n - 1) 0 % 16) (guardedBit n)))
-  parts = both-right (ltb (guardedBit n) (bitsIn (guardedField n))) (both (eqb (getD guardedEntries (n - 1) 0 / 16) (guardedField n)) (eqb (getD guardedEntries (n - 1) 0 % 16) (guardedBit n))) rest
+  guarded-bit-small = sound-here .1
 
   entry-field : getD guardedEntries (n - 1) 0 / 16 ≡ guardedField n
-  entry-field = eqb→eq (getD guardedEntries (n - 1) 0 / 16) (guardedField n) (both-left (eqb (getD guardedEntries (n - 1) 0 / 16) (guardedField n)) (eqb (getD guardedEntries (n - 1) 0 % 16) (guardedBit n)) parts)
+  entry-field = sound-here .2
 
   entry-bit : getD guardedEntries (n - 1) 0 % 16 ≡ guardedBit n
-  entry-bit = eqb→eq (getD guardedEntries (n - 1) 0 % 16) (guardedBit n) (both-right (eqb (getD guardedEntries (n - 1) 0 / 16) (guardedField n)) (eqb (getD guardedEntries (n - 1) 0 % 16) (guardedBit n)) parts)
+  entry-bit = sound-here .3
 
   -- the bit that its entry names, in a list of indices
   pub guarded-entry : (u : List ℕ) → guardedBits u n ≡ bit (getD u (guardedField n) 0) (guardedBit n)

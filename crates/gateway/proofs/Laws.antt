@@ -7,17 +7,16 @@ use mathlib.Core.List.{List}
 use mathlib.Core.Logic.{_⊎_, inl, inr}
 use Prim.Native.Nat.{ℕ, _+_, _-_, _*_, _/_, _%_, _<_, _≤_}
 use native.Mathlib.Omega.{arith}
-use native.Mathlib.Decide.{ℕ-discrete, decLe}
+use native.Mathlib.Decide.{ℕ-discrete}
 use borrow.Author.Tests.{eq-eqb, ne-eqb}
 use lib.Dec.{eqb}
 use lib.IntN.{ℤ, pos}
 use lib.ListN.{length, getD}
 use lib.Seq.{ext-getD}
-use Rattle.laws.specs.Tabulate.{tabulate}
 use Rattle.laws.proofs.Tabulate.{length-tabulate, getD-tabulate}
 use Rattle.record.specs.Fields.{indexOf}
 use Rattle.record.specs.declared.Record.{Record}
-use Rattle.record.proofs.Laws.{index-parameter, index-subframe, record-is}
+use Rattle.record.proofs.Laws.{index-given, record-is}
 use Rattle.frame.specs.Answers.{readingOf, writtenOf, refusalOf}
 use Rattle.frame.specs.declared.Reading.{Reading}
 use Rattle.frame.specs.declared.Verdict.{Verdict}
@@ -51,32 +50,6 @@ index-of-bytes r f a b =
 pub record-of-bytes : (r : Record) → length (r .lsp) ≡ 10 → length (r .subframes) ≡ 16 → recordIn (bytesOf r) ≡ r
 unfolding recordIn
 record-of-bytes r ten sixteen = record-is r (indexIn (bytesOf r)) ten sixteen (index-of-bytes r)
-
--- the index in a field of a record that is given field by field
-module _ (v : ℕ → ℕ) where
-  abbrev given : Record
-  given = record { lsp = tabulate (λ k. v (k + 1)) 10; subframes = tabulate (λ k. v (k + 11)) 16; sp = v 27; sy = v 28 }
-
-  pub index-given : (f : ℕ) → 1 ≤ f → f ≤ 28 → indexOf given f ≡ v f
-  index-given f a b = parameter (decLe f 10)
-    where
-      last : Dec (f ≡ 27) → 26 < f → indexOf given f ≡ v f
-      last (yes e) h = rw e
-      last (no e) h = let w : f ≡ 28 = omega arith in rw w
-
-      subframe : Dec (f ≤ 26) → 10 < f → indexOf given f ≡ v f
-      subframe (yes q) h =
-          let back : f - 11 + 11 ≡ f = omega arith in
-          ap (indexOf given) (sym back) ∙ index-subframe given (f - 11) (omega arith)
-          ∙ getD-tabulate (λ k. v (k + 11)) 0 16 (f - 11) (omega arith) ∙ ap v back
-      subframe (no q) h = last (ℕ-discrete f 27) (omega arith)
-
-      parameter : Dec (f ≤ 10) → indexOf given f ≡ v f
-      parameter (yes q) =
-          let back : f - 1 + 1 ≡ f = omega arith in
-          ap (indexOf given) (sym back) ∙ index-parameter given (f - 1) (omega arith)
-          ∙ getD-tabulate (λ k. v (k + 1)) 0 10 (f - 1) (omega arith) ∙ ap v back
-      parameter (no q) = subframe (decLe f 26) (omega arith)
 
 -- so the record in 56 bytes has the indices in them
 pub index-in-record : (s : List ℕ) (f : ℕ) → 1 ≤ f → f ≤ 28 → indexOf (recordIn s) f ≡ indexIn s f

@@ -1,14 +1,14 @@
 -- A loop that fills a list from the front, one place a turn: the invariant `Filled`, how it starts, goes on and ends.
 -- Assumes nothing.
-use mathlib.Core.Path.{_≡_, _∙_, sym, refl, ap, subst}
+use mathlib.Core.Path.{_≡_, _∙_, sym, refl, subst}
 use mathlib.Core.List.{List}
 use Prim.Native.Nat.{ℕ, _+_, _<_, _≤_}
 use native.Mathlib.Omega.{arith}
 use native.Mathlib.Decide.{ℕ-discrete}
 use lib.ListN.{length, getD, set, length-set}
-use lib.Seq.{getD-set-same, getD-set-other, ext-getD}
+use lib.Seq.{getD-set-same, getD-set-other}
 use Rattle.laws.specs.Tabulate.{tabulate}
-use Rattle.laws.proofs.Tabulate.{length-tabulate, getD-tabulate}
+use Rattle.laws.proofs.Tabulate.{tabulate-is, own-entries}
 
 -- of the n places of l, the first i hold f
 pub record Filled {A : Type 0} (d : A) (f : ℕ → A) (n i : ℕ) (l : List A) : Type 0 where
@@ -32,10 +32,22 @@ module _ {A : Type 0} (d : A) (f : ℕ → A) (n : ℕ) where
       here′ k q = here″ k q (ℕ-discrete k i)
 
   pub filled-all : (l : List A) → Filled d f n n l → l ≡ tabulate f n
-  filled-all l p =
-      ext-getD d l (tabulate f n) (p .long ∙ sym (length-tabulate f n))
-      (λ k h. p .here k (omega (arith, p .long)) ∙ sym (getD-tabulate f d n k (omega (arith, p .long))))
+  filled-all l p = sym (tabulate-is f d l n (p .long) (λ k h. sym (p .here k h)))
 
   -- the same where the loop was left
   pub filled-done : {i : ℕ} (l : List A) → n ≤ i → Filled d f n i l → l ≡ tabulate f n
   filled-done {i} l h p = filled-all l (record { long = p .long; upto = omega arith; here = λ k q. p .here k (omega arith) })
+
+-- the loop that copies a list: the first k places hold what it holds there
+module _ {A : Type 0} (d : A) (part : List A) where
+  abbrev pub Copied : ℕ → List A → Type 0
+  Copied k out = Filled d (λ (m : ℕ). getD part m d) (length part) k out
+
+  pub copied-none : (out : List A) → length out ≡ length part → Copied 0 out
+  copied-none out e = filled-none _ _ _ out e
+
+  pub copied-more : {k : ℕ} {out : List A} (v : A) → Copied k out → k < length part → v ≡ getD part k d → Copied (k + 1) (set out k v)
+  copied-more {k} {out} v p h e = filled-more _ _ _ k out v p h e
+
+  pub copied-all : {k : ℕ} {out : List A} → Copied k out → length part ≤ k → out ≡ part
+  copied-all {k} {out} p h = filled-done _ _ _ out h p ∙ own-entries d part (length part) refl

@@ -13,3 +13,4 @@ pub mod Place
 pub mod Joined
 pub mod Turns
 pub mod Front
+pub mod Cases

@@ -7,9 +7,9 @@ use Prim.Native.Nat.{ℕ, _<_}
 use native.Mathlib.Omega.{arith}
 use native.Mathlib.Decide.{ℕ-discrete}
 use lib.ListN.{length, getD, set, length-set}
-use lib.Seq.{getD-set-same, getD-set-other, ext-getD}
+use lib.Seq.{getD-set-same, getD-set-other}
 use Rattle.laws.specs.Tabulate.{tabulate}
-use Rattle.laws.proofs.Tabulate.{length-tabulate, getD-tabulate}
+use Rattle.laws.proofs.Tabulate.{tabulate-is}
 
 -- of the n places of l, those that p names hold f
 pub record Placed {A : Type 0} (d : A) (f : ℕ → A) (n : ℕ) (p : ℕ → Type 0) (l : List A) : Type 0 where
@@ -37,6 +37,4 @@ module _ {A : Type 0} {d : A} {f : ℕ → A} {n : ℕ} where
 
   -- every place holds f
   pub placed-all : {p : ℕ → Type 0} {l : List A} → Placed d f n p l → ((k : ℕ) → k < n → p k) → l ≡ tabulate f n
-  placed-all {p} {l} s all =
-      ext-getD d l (tabulate f n) (s .long ∙ sym (length-tabulate f n))
-      (λ k h. s .here k (all k (omega (arith, s .long))) ∙ sym (getD-tabulate f d n k (omega (arith, s .long))))
+  placed-all {p} {l} s all = sym (tabulate-is f d l n (s .long) (λ k h. sym (s .here k (all k h))))

@@ -19,6 +19,13 @@ pub both-right : (a b : Bool) → T (both a b) → T b
 both-right true b t = t
 both-right false b t = absurd t
 
+-- four tests in one, each for itself
+pub each-of-four : (a b c d : Bool) → T (both a (both b (both c d))) → T a × T b × T c × T d
+each-of-four a b c d t =
+    let u = both-right a (both b (both c d)) t in
+    let v = both-right b (both c d) u in
+    (both-left a (both b (both c d)) t, both-left b (both c d) u, both-left c d v, both-right c d v)
+
 module _ {A : Type 0} (d : A) (f : ℕ → A → Bool) where
   from : (xs : List A) (i : ℕ) → T (every f i xs) → (k : ℕ) → k < length xs → T (f (i + k) (getD xs k d))
   from [] i t k h = absurd (not-suc-le-zero h)

@@ -1,11 +1,12 @@
 -- Lists given by their places, and the loop that fills one from the front.
 -- Assumes nothing.
-use mathlib.Core.Path.{_≡_, _∙_, sym, refl, ap, ap₂}
+use mathlib.Core.Path.{_≡_, _∙_, sym, refl, ap, ap₂, subst}
 use mathlib.Core.List.{List, [], _∷_}
 use Prim.Native.Nat.{ℕ, zero, suc, _+_, _<_, _≤_}
 use native.Mathlib.Omega.{arith}
-use native.Mathlib.Nat.{add-zero, add-suc, zero-add}
+use native.Mathlib.Nat.{add-zero, zero-add}
 use lib.ListN.{length, getD}
+use lib.Seq.{ext-getD}
 use Rattle.laws.specs.Tabulate.{tabulateFrom, tabulate}
 
 module _ {A : Type 0} (f : ℕ → A) where
@@ -26,6 +27,17 @@ module _ {A : Type 0} (f : ℕ → A) where
   -- what stands at a place of it
   pub getD-tabulate : (d : A) (n k : ℕ) → k < n → getD (tabulate f n) k d ≡ f k
   getD-tabulate d n k h = getD-from d n 0 k h ∙ ap f (zero-add k)
+
+  -- a list of that length that holds the same at each place is it
+  pub tabulate-is : (d : A) (l : List A) (n : ℕ) → length l ≡ n → ((k : ℕ) → k < n → f k ≡ getD l k d) → tabulate f n ≡ l
+  tabulate-is d l n e same =
+      ext-getD d (tabulate f n) l (length-tabulate n ∙ sym e)
+      (λ k h. let b : k < n = subst (λ (m : ℕ). k < m) (length-tabulate n) h in
+      getD-tabulate d n k b ∙ same k b)
+
+-- a list is given by its entries
+pub own-entries : {A : Type 0} (d : A) (l : List A) (n : ℕ) → length l ≡ n → tabulate (λ k. getD l k d) n ≡ l
+own-entries d l n e = tabulate-is (λ k. getD l k d) d l n e (λ k h. refl)
 
 from-cong : {A : Type 0} (f g : ℕ → A) (n i : ℕ) → ((k : ℕ) → i ≤ k → k < i + n → f k ≡ g k) → tabulateFrom i f n ≡ tabulateFrom i g n
 unfolding tabulateFrom

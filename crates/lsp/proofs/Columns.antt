@@ -3,8 +3,9 @@
 use mathlib.Core.Path.{_≡_, _∙_, sym, ap, subst}
 use mathlib.Core.Bool.{Bool, cond}
 use mathlib.Core.List.{List, []}
-use Prim.Native.Nat.{ℕ, _+_, _-_, _%_, _<_, _≤_}
+use Prim.Native.Nat.{ℕ, _+_, _%_, _<_, _≤_}
 use native.Mathlib.Omega.{arith}
+use native.Mathlib.Nat.{add-sub-cancel}
 use lib.Dec.{T, leb, eqb, eqb→eq}
 use lib.ListN.{length, getD, set}
 use borrow.Author.Tests.{le-leb, lt-leb}
@@ -13,17 +14,13 @@ use Rattle.laws.proofs.Table.{at, both-left, both-right}
 use Rattle.laws.proofs.Filled.{Filled, filled-none, filled-more, filled-all}
 use Rattle.lsp.specs.Table.{hzTable, column, hzAt, hertzOf}
 
--- LSP i+1 stands at place i
-pub from-one : (i : ℕ) → i + 1 - 1 ≡ i
-from-one i = omega arith
-
 -- the column of LSP i+1 has 16 entries for LSP 2 to 5 and 8 for the others
 abbrev entries : ℕ → ℕ
 entries i = cond (both (leb 1 i) (leb i 4)) 16 8
 
 pub column-entries : (i : ℕ) → i < 10 → length (column (i + 1)) ≡ entries i
 unfolding hzTable
-column-entries i h = rw (from-one i) (eqb→eq _ _ (at [] (λ k c. eqb (length c) (entries k)) hzTable tt i h))
+column-entries i h = rw (add-sub-cancel i 1) (eqb→eq _ _ (at [] (λ k c. eqb (length c) (entries k)) hzTable tt i h))
 
 -- so an index counts there by its lowest 4 bits, or its lowest 3
 pub first-bits : (i x : ℕ) → i ≡ 0 → x % 8 ≡ x % length (column (i + 1))
@@ -54,7 +51,7 @@ entry rows printed i k h g =
     let t : T (rowPrinted k row)
     = at [] rowPrinted rows (both-right (eqb (length rows) 16) (every rowPrinted 0 rows) printed) k (omega arith) in
     let ten : length row ≡ 10 = eqb→eq _ _ (both-left (eqb (length row) 10) (every (entryPrinted k) 0 row) t) in
-    rw (from-one i)
+    rw (add-sub-cancel i 1)
     (eqb→eq _ _ (at 0 (entryPrinted k) row (both-right (eqb (length row) 10) (every (entryPrinted k) 0 row) t) i (omega arith)))
 
 -- the loop of `hertz`: the table is as printed, and the first i places hold Hz
@@ -69,7 +66,7 @@ none-in-hertz rows indices hz t e = record { printed = t; filled = filled-none 0
 pub one-in-hertz : {rows : List (List ℕ)} {indices : List ℕ} {i : ℕ} {hz : List ℕ} {k : ℕ} → Hertz rows indices i hz → i < 10
     → k ≡ getD indices i 0 % length (column (i + 1)) → k < 16 → Hertz rows indices (i + 1) (set hz i (getD (getD rows k []) i 0))
 one-in-hertz {rows} {indices} {i} {hz} {k} s h e g =
-    let v : getD (getD rows k []) i 0 ≡ hzAt indices i = entry rows (s .printed) i k h g ∙ simp (e, from-one i) in
+    let v : getD (getD rows k []) i 0 ≡ hzAt indices i = entry rows (s .printed) i k h g ∙ simp (e, add-sub-cancel i 1) in
     record { printed = s .printed; filled = filled-more 0 (hzAt indices) 10 i hz _ (s .filled) h v }
 
 pub all-in-hertz : {rows : List (List ℕ)} {indices : List ℕ} {i : ℕ} {hz : List ℕ} → Hertz rows indices i hz → 10 ≤ i → hz ≡ hertzOf indices

@@ -3,7 +3,7 @@
 use mathlib.Core.Path.{_≡_, _∙_, sym, refl, ap, subst}
 use mathlib.Core.Bool.{Bool, true, cond}
 use mathlib.Core.List.{List, []}
-use Prim.Native.Nat.{ℕ, zero, suc, _+_, _*_, _-_, _%_, _^_, _<_, _≤_, min, max}
+use Prim.Native.Nat.{ℕ, _+_, _*_, _-_, _%_, _^_, _<_, _≤_, min, max}
 use native.Mathlib.Omega.{arith}
 use native.Mathlib.Nat.{min-le-left, min-le-right, le-max-left, le-max-right, mod-lt, mod-eq-of-lt}
 use native.Mathlib.Decide.{decLt}
@@ -15,6 +15,7 @@ use borrow.Author.Tests.{ltb-true, ltb-false, lt-ltb, le-ltb}
 use Rattle.laws.specs.Table.{both, every}
 use Rattle.laws.proofs.Table.{at, both-left, both-right}
 use Rattle.laws.proofs.Tabulate.{length-tabulate, getD-tabulate}
+use Rattle.laws.proofs.Cases.{of-four}
 use Rattle.laws.proofs.Lowest.{lowest-at, lowest-none, lowest-zero, lowest-found}
 use Rattle.lsp.specs.Table.{bits, hzTable, column, hzOf, lsp, hzAt, hertzOf}
 use Rattle.lsp.specs.Order.{falls, markOf, InOrder}
@@ -53,15 +54,6 @@ mark-most hz = go (decLt 0 (markOf hz))
     go (no h) = omega arith
 
 -- ---- the averages
-
--- a subframe is one of four
-pub of-four : (p : ℕ → Type 0) (n : ℕ) → 1 ≤ n → n ≤ 4 → p 1 → p 2 → p 3 → p 4 → p n
-of-four p zero a b p₁ p₂ p₃ p₄ = absurd (omega arith)
-of-four p (suc zero) a b p₁ p₂ p₃ p₄ = p₁
-of-four p (suc (suc zero)) a b p₁ p₂ p₃ p₄ = p₂
-of-four p (suc (suc (suc zero))) a b p₁ p₂ p₃ p₄ = p₃
-of-four p (suc (suc (suc (suc zero)))) a b p₁ p₂ p₃ p₄ = p₄
-of-four p (suc (suc (suc (suc (suc n))))) a b p₁ p₂ p₃ p₄ = absurd (omega arith)
 
 -- an average lies between the two values
 pub average-least : (n a b : ℕ) → 1 ≤ n → n ≤ 4 → 8 * min a b ≤ averageOf n a b

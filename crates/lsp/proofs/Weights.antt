@@ -5,11 +5,11 @@ use mathlib.Core.List.{List}
 use mathlib.Core.Logic.{_⊎_, inl, inr}
 use Prim.Native.Nat.{ℕ, _+_, _*_, _/_, _%_, _<_, _≤_}
 use native.Mathlib.Omega.{arith}
+use native.Mathlib.Nat.{add-sub-cancel}
 use native.Mathlib.Decide.{ℕ-discrete}
 use lib.ListN.{getD, length, set}
 use Rattle.laws.proofs.Placed.{Placed, placed-none, placed-more, placed-as, placed-all}
 use Rattle.lsp.specs.Average.{averageOf, averageAt, averagesOf}
-use Rattle.lsp.proofs.Columns.{from-one}
 
 module _ (previous present : List ℕ) where
   -- what stands at place k
@@ -21,7 +21,7 @@ module _ (previous present : List ℕ) where
   eighths-at m i k h e =
       let q : k / 10 ≡ m = omega arith in
       let r : k % 10 ≡ i = omega arith in
-      rw (q, r, from-one i)
+      rw (q, r, add-sub-cancel i 1)
 
   -- the first i parameters are done in all four subframes
   abbrev pub Done : ℕ → ℕ → Type 0

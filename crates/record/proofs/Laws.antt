@@ -1,13 +1,14 @@
 -- What `tooLarge` says of a record: 0 exactly when every index fits its field; else a field whose index does not, and every lower one does.
+-- And what stands in which field.
 -- Assumes nothing.
-use mathlib.Core.Path.{_≡_, _∙_, sym, ap, subst}
-use mathlib.Core.Bool.{true, false}
+use mathlib.Core.Path.{_≡_, _∙_, sym, ap}
 use Prim.Native.Nat.{ℕ, _+_, _-_, _^_, _<_, _≤_}
 use native.Mathlib.Omega.{arith}
+use native.Mathlib.Nat.{add-sub-cancel}
+use native.Mathlib.Decide.{ℕ-discrete, decLe}
 use lib.ListN.{length, getD}
-use lib.Seq.{ext-getD}
 use Rattle.laws.specs.Tabulate.{tabulate}
-use Rattle.laws.proofs.Tabulate.{length-tabulate, getD-tabulate}
+use Rattle.laws.proofs.Tabulate.{getD-tabulate, tabulate-is}
 use borrow.Author.Tests.{leb-true, leb-false, le-leb, lt-leb}
 use Rattle.laws.proofs.Lowest.{lowest-zero, lowest-found, lowest-none, lowest-at}
 use Rattle.record.specs.Fields.{over, tooLarge, indexOf, widthOf}
@@ -41,32 +42,45 @@ module _ (r : Record) where
 
   -- what stands in a field, by the list that holds it
   pub index-parameter : (k : ℕ) → k < 10 → indexOf r (k + 1) ≡ getD (r .lsp) k 0
-  index-parameter k h = rw (le-leb (k + 1) 10 (omega arith)) (ap (λ (n : ℕ). getD (r .lsp) n 0) place)
-    where
-      place : k + 1 - 1 ≡ k
-      place = omega arith
+  index-parameter k h = rw (le-leb (k + 1) 10 (omega arith)) (ap (λ (n : ℕ). getD (r .lsp) n 0) (add-sub-cancel k 1))
 
   pub index-subframe : (k : ℕ) → k < 16 → indexOf r (k + 11) ≡ getD (r .subframes) k 0
   index-subframe k h =
-      rw (lt-leb (k + 11) 10 (omega arith), le-leb (k + 11) 26 (omega arith)) (ap (λ (n : ℕ). getD (r .subframes) n 0) place)
-    where
-      place : k + 11 - 11 ≡ k
-      place = omega arith
+      rw (lt-leb (k + 11) 10 (omega arith), le-leb (k + 11) 26 (omega arith)) (ap (λ (n : ℕ). getD (r .subframes) n 0) (add-sub-cancel k 11))
 
-  -- a record is known by what stands in its fields
-  pub record-is : (v : ℕ → ℕ) → length (r .lsp) ≡ 10 → length (r .subframes) ≡ 16 → ((f : ℕ) → 1 ≤ f → f ≤ 28 → v f ≡ indexOf r f)
-      → record { lsp = tabulate (λ k. v (k + 1)) 10; subframes = tabulate (λ k. v (k + 11)) 16; sp = v 27; sy = v 28 } ≡ r
-  record-is v ten sixteen same =
-      λ i. record { lsp = parameters i; subframes = indices i; sp = same 27 (omega arith) (omega arith) i; sy = same 28 (omega arith) (omega arith) i }
-    where
-      parameters : tabulate (λ k. v (k + 1)) 10 ≡ r .lsp
-      parameters =
-          ext-getD 0 (tabulate (λ k. v (k + 1)) 10) (r .lsp) (length-tabulate (λ k. v (k + 1)) 10 ∙ sym ten)
-          (λ k h. let l : k < 10 = subst (λ (n : ℕ). k < n) (length-tabulate (λ k. v (k + 1)) 10) h in
-          getD-tabulate (λ k. v (k + 1)) 0 10 k l ∙ same (k + 1) (omega arith) (omega arith) ∙ index-parameter k l)
+-- a record whose field f holds v f
+abbrev pub given : (ℕ → ℕ) → Record
+given v = record { lsp = tabulate (λ k. v (k + 1)) 10; subframes = tabulate (λ k. v (k + 11)) 16; sp = v 27; sy = v 28 }
 
-      indices : tabulate (λ k. v (k + 11)) 16 ≡ r .subframes
-      indices =
-          ext-getD 0 (tabulate (λ k. v (k + 11)) 16) (r .subframes) (length-tabulate (λ k. v (k + 11)) 16 ∙ sym sixteen)
-          (λ k h. let l : k < 16 = subst (λ (n : ℕ). k < n) (length-tabulate (λ k. v (k + 11)) 16) h in
-          getD-tabulate (λ k. v (k + 11)) 0 16 k l ∙ same (k + 11) (omega arith) (omega arith) ∙ index-subframe k l)
+pub index-given : (v : ℕ → ℕ) (f : ℕ) → 1 ≤ f → f ≤ 28 → indexOf (given v) f ≡ v f
+index-given v f a b = parameter (decLe f 10)
+  where
+    last : Dec (f ≡ 27) → 26 < f → indexOf (given v) f ≡ v f
+    last (yes e) h = rw e
+    last (no e) h = let w : f ≡ 28 = omega arith in rw w
+
+    subframe : Dec (f ≤ 26) → 10 < f → indexOf (given v) f ≡ v f
+    subframe (yes q) h =
+        let back : f - 11 + 11 ≡ f = omega arith in
+        ap (indexOf (given v)) (sym back) ∙ index-subframe (given v) (f - 11) (omega arith)
+        ∙ getD-tabulate (λ k. v (k + 11)) 0 16 (f - 11) (omega arith) ∙ ap v back
+    subframe (no q) h = last (ℕ-discrete f 27) (omega arith)
+
+    parameter : Dec (f ≤ 10) → indexOf (given v) f ≡ v f
+    parameter (yes q) =
+        let back : f - 1 + 1 ≡ f = omega arith in
+        ap (indexOf (given v)) (sym back) ∙ index-parameter (given v) (f - 1) (omega arith)
+        ∙ getD-tabulate (λ k. v (k + 1)) 0 10 (f - 1) (omega arith) ∙ ap v back
+    parameter (no q) = subframe (decLe f 26) (omega arith)
+
+-- a record is known by what stands in its fields
+pub record-is : (r : Record) (v : ℕ → ℕ) → length (r .lsp) ≡ 10 → length (r .subframes) ≡ 16
+    → ((f : ℕ) → 1 ≤ f → f ≤ 28 → v f ≡ indexOf r f) → given v ≡ r
+record-is r v ten sixteen same =
+    λ i. record { lsp = parameters i; subframes = indices i; sp = same 27 (omega arith) (omega arith) i; sy = same 28 (omega arith) (omega arith) i }
+  where
+    parameters : tabulate (λ k. v (k + 1)) 10 ≡ r .lsp
+    parameters = tabulate-is (λ k. v (k + 1)) 0 (r .lsp) 10 ten (λ k l. same (k + 1) (omega arith) (omega arith) ∙ index-parameter r k l)
+
+    indices : tabulate (λ k. v (k + 11)) 16 ≡ r .subframes
+    indices = tabulate-is (λ k. v (k + 11)) 0 (r .subframes) 16 sixteen (λ k l. same (k + 11) (omega arith) (omega arith) ∙ index-subframe r k l)

@@ -1,4 +1,3 @@
-pub mod Copied
 pub mod Sized
 pub mod Drawn
 pub mod Determined

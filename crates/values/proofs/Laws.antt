@@ -18,7 +18,8 @@ use Rattle.delays.proofs.Laws.{heard-within}
 use Rattle.lsp.specs.Table.{lsp, hertzOf}
 use Rattle.lsp.specs.Order.{markOf}
 use Rattle.lsp.specs.Average.{averageAt, averagesOf}
-use Rattle.lsp.proofs.Laws.{of-four, averages-at, averages-same, hertz-within}
+use Rattle.laws.proofs.Cases.{of-four}
+use Rattle.lsp.proofs.Laws.{averages-at, averages-same, hertz-within}
 use Rattle.values.specs.declared.State.{State}
 use Rattle.values.specs.declared.Values.{Values}
 use Rattle.values.specs.declared.Outcome.{Outcome}

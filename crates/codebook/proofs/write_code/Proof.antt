@@ -1,6 +1,6 @@
 -- `codebook::write_code` meets its contract: the answers of Codes.antt, at the code's own numbers.
 -- Assumes nothing.
-use borrow.Author.Needs.{needs}
+use native.Mathlib.Omega.{arith}
 use Rattle.codebook.specs.Book.{book}
 use Rattle.codebook.proofs.Codes.{refused-length, refused-index, laid}
 use Rattle.codebook.proofs.write_code.Statement.{statement}
@@ -23,5 +23,5 @@ returns-3 c =
 pub write-code-spec : {M : Type 1} → statement M
 write-code-spec =
     tie.close
-    (tie.spec returns returns-2 (search needs) (search needs) (search needs) (search needs) (search needs) (search needs) (search needs)
-    (search needs) returns-3)
+    (tie.spec returns returns-2 (λ c. omega arith) (λ c. omega arith) (λ c. omega arith) (λ c. omega arith) (λ c. omega arith) (λ c. omega arith)
+    (λ c. omega arith) (λ c. omega arith) returns-3)

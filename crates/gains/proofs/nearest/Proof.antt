@@ -2,7 +2,7 @@
 -- `near` away, and the lowest such. Each turn is one of `Down`.
 -- Assumes nothing.
 use native.Mathlib.Omega.{arith}
-use borrow.Author.Needs.{needs, sfits-of}
+use borrow.Author.Needs.{sfits-of}
 use lib.ListN.{length}
 use mir.Syntax.{w32}
 use mir.Val.{toZ}
@@ -36,5 +36,6 @@ returns c = come-down _ (c .before .before .before .before .fits .x) (c .loop-te
 pub nearest-spec : {M : Type 1} → statement M
 nearest-spec =
     tie.close
-    (tie.spec Inv-loop μ-loop (search needs) (search needs) (search needs) (search needs) loop-holds (search needs) (search needs) (search needs)
-    (search needs) (search needs) loop-again (search needs) loop-again-2 (search needs) returns)
+    (tie.spec Inv-loop μ-loop (λ c. omega arith) (λ c. omega arith) (λ c. omega arith) (λ c. omega arith) loop-holds (λ c. omega arith)
+    (λ c. omega arith) (λ c. omega arith) (λ c. omega arith) (λ c. omega arith) loop-again (λ c. omega arith) loop-again-2 (λ c. omega arith)
+    returns)

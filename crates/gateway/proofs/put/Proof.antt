@@ -2,7 +2,6 @@
 -- Assumes nothing.
 use Prim.Native.Nat.{_+_, _-_, _*_}
 use native.Mathlib.Omega.{arith}
-use borrow.Author.Needs.{needs}
 use Rattle.laws.proofs.Filled.{filled-none}
 use Rattle.gateway.proofs.Pairs.{Put, put-fewer, put-lsp, put-subframe, put-sp, put-whole}
 use Rattle.gateway.proofs.put.Statement.{statement}
@@ -52,6 +51,6 @@ returns c =
 pub put-spec : {M : Type 1} → statement M
 put-spec =
     tie.close
-    (tie.spec Inv-loop μ-loop Inv-loop2 μ-loop2 loop-holds (search needs) (search needs) (search needs) (search needs) (search needs)
-    (search needs) loop-again loop2-holds (search needs) (search needs) (search needs) (search needs) (search needs) (search needs)
-    (search needs) loop2-again (search needs) (search needs) (search needs) returns)
+    (tie.spec Inv-loop μ-loop Inv-loop2 μ-loop2 loop-holds (λ c. omega arith) (λ c. omega arith) (λ c. omega arith) (λ c. omega arith)
+    (λ c. omega arith) (λ c. omega arith) loop-again loop2-holds (λ c. omega arith) (λ c. omega arith) (λ c. omega arith) (λ c. omega arith)
+    (λ c. omega arith) (λ c. omega arith) (λ c. omega arith) loop2-again (λ c. omega arith) (λ c. omega arith) (λ c. omega arith) returns)

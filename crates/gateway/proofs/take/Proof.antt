@@ -2,7 +2,7 @@
 -- Assumes nothing.
 use mathlib.Core.Path.{refl}
 use Prim.Native.Nat.{_-_}
-use borrow.Author.Needs.{needs}
+use native.Mathlib.Omega.{arith}
 use Rattle.laws.proofs.Filled.{filled-none}
 use Rattle.gateway.proofs.Pairs.{TakenLsp, TakenSubframes, take-lsp, take-subframe, take-whole}
 use Rattle.gateway.proofs.take.Statement.{statement}
@@ -44,6 +44,6 @@ returns c =
 pub take-spec : {M : Type 1} → statement M
 take-spec =
     tie.close
-    (tie.spec Inv-loop μ-loop Inv-loop2 μ-loop2 loop-holds (search needs) (search needs) (search needs) (search needs) (search needs)
-    (search needs) loop-again loop2-holds (search needs) (search needs) (search needs) (search needs) (search needs) (search needs)
-    (search needs) loop2-again (search needs) (search needs) returns)
+    (tie.spec Inv-loop μ-loop Inv-loop2 μ-loop2 loop-holds (λ c. omega arith) (λ c. omega arith) (λ c. omega arith) (λ c. omega arith)
+    (λ c. omega arith) (λ c. omega arith) loop-again loop2-holds (λ c. omega arith) (λ c. omega arith) (λ c. omega arith) (λ c. omega arith)
+    (λ c. omega arith) (λ c. omega arith) (λ c. omega arith) loop2-again (λ c. omega arith) (λ c. omega arith) returns)

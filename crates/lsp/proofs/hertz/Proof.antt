@@ -1,6 +1,7 @@
 -- `lsp::hertz` meets its contract. The loop's invariant: the table is as printed, and the places passed hold Hz.
 -- Assumes nothing.
 use Prim.Native.Nat.{_-_}
+use native.Mathlib.Omega.{arith}
 use borrow.Author.Needs.{needs}
 use Rattle.lsp.specs.Table.{hzTable}
 use Rattle.lsp.proofs.Columns.{Hertz, none-in-hertz, one-in-hertz, all-in-hertz}
@@ -27,5 +28,5 @@ returns c = all-in-hertz (c .before .loop .inv) (c .loop-test .left)
 pub hertz-spec : {M : Type 1} → statement M
 hertz-spec =
     tie.close
-    (tie.spec Inv-loop μ-loop loop-holds (search needs) (search needs) (search needs) (search needs) (search needs) (search needs) (search needs)
-    (search needs) (search needs) (search needs) (search needs) loop-again returns)
+    (tie.spec Inv-loop μ-loop loop-holds (λ c. omega arith) (λ c. omega arith) (λ c. omega arith) (λ c. omega arith) (λ c. omega arith)
+    (λ c. omega arith) (λ c. omega arith) (λ c. omega arith) (λ c. omega arith) (λ c. omega arith) (λ c. omega arith) loop-again returns)

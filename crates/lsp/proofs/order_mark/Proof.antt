@@ -1,6 +1,7 @@
 -- `lsp::order_mark` meets its contract. The loop's invariant: no pair passed falls.
 -- Assumes nothing.
 use Prim.Native.Nat.{_-_}
+use native.Mathlib.Omega.{arith}
 use borrow.Author.Needs.{needs}
 use Rattle.laws.proofs.Lowest.{NoneUpTo, none-yet}
 use Rattle.lsp.specs.Order.{falls}
@@ -29,5 +30,5 @@ returns-2 c = nowhere _ (c .before .loop .inv) (c .loop-test .left)
 pub order-mark-spec : {M : Type 1} → statement M
 order-mark-spec =
     tie.close
-    (tie.spec Inv-loop μ-loop loop-holds (search needs) (search needs) (search needs) (search needs) (search needs) (search needs) returns
-    (search needs) (search needs) loop-again returns-2)
+    (tie.spec Inv-loop μ-loop loop-holds (λ c. omega arith) (λ c. omega arith) (λ c. omega arith) (λ c. omega arith) (λ c. omega arith)
+    (λ c. omega arith) returns (λ c. omega arith) (λ c. omega arith) loop-again returns-2)

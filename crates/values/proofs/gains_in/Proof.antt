@@ -2,7 +2,7 @@
 -- Assumes nothing.
 use mathlib.Core.Path.{_∙_}
 use native.Mathlib.Omega.{arith}
-use borrow.Author.Needs.{needs, sfits-of}
+use borrow.Author.Needs.{sfits-of}
 use mir.Facts.{toZ-ofZ}
 use Rattle.values.proofs.Answered.{four}
 use Rattle.values.proofs.gains_in.Statement.{statement}
@@ -32,5 +32,5 @@ returns c =
 pub gains-in-spec : {M : Type 1} → statement M
 gains-in-spec =
     tie.close
-    (tie.spec (search needs) gain-in-requires (search needs) gain-in-requires-2 (search needs) gain-in-requires-3 (search needs) gain-in-requires-4
-    returns)
+    (tie.spec (λ c. omega arith) gain-in-requires (λ c. omega arith) gain-in-requires-2 (λ c. omega arith) gain-in-requires-3 (λ c. omega arith)
+    gain-in-requires-4 returns)

@@ -2,7 +2,7 @@
 -- Assumes nothing.
 use mathlib.Core.Path.{_∙_, ap}
 use lib.ListN.{length}
-use borrow.Author.Needs.{needs}
+use native.Mathlib.Omega.{arith}
 use Rattle.gains.proofs.Laws.{cg-length, pg-length}
 use Rattle.values.specs.Values.{cgIndex, pgIndex, inSubframes}
 use Rattle.values.proofs.Laws.{cg-index-small, pg-index-small}
@@ -35,6 +35,6 @@ returns c =
 pub heard-values-spec : {M : Type 1} → statement M
 heard-values-spec =
     tie.close
-    (tie.spec (search needs) (search needs) (search needs) (search needs) (search needs) (search needs) gains-in-requires (search needs) (search needs)
-    (search needs) (search needs) (search needs) (search needs) gains-in-requires-2 (search needs) (search needs) (search needs) (search needs)
-    (search needs) (search needs) returns)
+    (tie.spec (λ c. omega arith) (λ c. omega arith) (λ c. omega arith) (λ c. omega arith) (λ c. omega arith) (λ c. omega arith) gains-in-requires
+    (λ c. omega arith) (λ c. omega arith) (λ c. omega arith) (λ c. omega arith) (λ c. omega arith) (λ c. omega arith) gains-in-requires-2
+    (λ c. omega arith) (λ c. omega arith) (λ c. omega arith) (λ c. omega arith) (λ c. omega arith) (λ c. omega arith) returns)
