@@ -3,6 +3,7 @@
 # it. Then installs below a DESTDIR, and uninstalls. Needs pkg-config.
 set -eu
 cd "$(dirname "$0")"
+. ./tools.sh
 
 fail() {
     echo "host/test-install.sh: $1" >&2
@@ -60,15 +61,15 @@ cp "$tmp/small.c" "$tmp/small.cpp"
 PKG_CONFIG_PATH="$tmp/usr/lib/pkgconfig"
 export PKG_CONFIG_PATH
 # The words of pkg-config are split on purpose.
-${CC:-cc} -std=c99 -Wall -Wextra -pedantic -Werror $(pkg-config --cflags oatlantern) -o "$tmp/small" "$tmp/small.c" $(pkg-config --libs oatlantern)
-[ "$("$tmp/small")" = "linked, written, mended" ] || fail "the small C program"
+$CC -std=c99 -Wall -Wextra -pedantic -Werror $(pkg-config --cflags oatlantern) -o "$tmp/small" "$tmp/small.c" $(pkg-config --libs oatlantern)
+[ "$("$run" "$tmp/small")" = "linked, written, mended" ] || fail "the small C program"
 checks=$((checks + 1))
-if command -v "${CXX:-c++}" > /dev/null; then
-    ${CXX:-c++} -std=c++11 -Wall -Wextra -pedantic -Werror $(pkg-config --cflags oatlantern) -o "$tmp/smallpp" "$tmp/small.cpp" $(pkg-config --libs oatlantern)
-    [ "$("$tmp/smallpp")" = "linked, written, mended" ] || fail "the small C++ program"
+if command -v "$CXX" > /dev/null; then
+    $CXX $cxx_flags -std=c++11 -Wall -Wextra -pedantic -Werror $(pkg-config --cflags oatlantern) -o "$tmp/smallpp" "$tmp/small.cpp" $(pkg-config --libs oatlantern)
+    [ "$("$run" "$tmp/smallpp")" = "linked, written, mended" ] || fail "the small C++ program"
     checks=$((checks + 1))
 fi
-[ "$(head -c 18 /dev/zero | "$tmp/usr/bin/oatlantern-decode" | "$tmp/usr/bin/oatlantern-encode" | od -An -tx1 | tr -d ' \n0')" = "" ] ||
+[ "$(head -c 18 /dev/zero | "$run" "$tmp/usr/bin/oatlantern-decode" | "$run" "$tmp/usr/bin/oatlantern-encode" | od -An -tx1 | tr -d ' \n0')" = "" ] ||
     fail "the installed programs"
 checks=$((checks + 1))
 

@@ -1,14 +1,16 @@
 #!/bin/sh
-# Tries the host programs, as built and again under the address and undefined-behaviour sanitizers: there and back, the refusals,
-# malformed and very long lines. Silent but for the last line; exit status 1 at the first fault.
+# Tries the host programs, as built and again under the sanitizers (tools.sh says which): there and back, the refusals, malformed and
+# very long lines. Silent but for the last line; exit status 1 at the first fault.
 set -eu
 cd "$(dirname "$0")"
+. ./tools.sh
 
 out=../target/host
 make -s all
 mkdir -p $out/sanitized
 for p in decode encode; do
-    ${CC:-cc} -std=c99 -Wall -Wextra -pedantic -Werror -g -O1 -fsanitize=address,undefined -fno-sanitize-recover=all \
+    # the words of $sanitizers are split on purpose
+    $CC -std=c99 -Wall -Wextra -pedantic -Werror -g -O1 $sanitizers \
         -I../include -o $out/sanitized/oatlantern-$p $p.c ../target/staticlib/libgateway.a
 done
 
@@ -30,7 +32,7 @@ same() {
 # refused WHAT PROGRAM INPUT STATUS MESSAGE: the program ends so and says exactly this one line. What it wrote is in $tmp/got.
 refused() {
     status=0
-    "$bin/$2" < "$3" > "$tmp/got" 2> "$tmp/said" || status=$?
+    "$run" "$bin/$2" < "$3" > "$tmp/got" 2> "$tmp/said" || status=$?
     [ $status -eq "$4" ] || fail "$bin: $1: status $status"
     printf '%s\n' "$5" > "$tmp/wanted"
     same "$1: what it says" "$tmp/wanted" "$tmp/said"
@@ -62,26 +64,26 @@ lines() {
 for bin in $out $out/sanitized; do
     # There and back.
     lines 1000 > "$tmp/lines"
-    "$bin/oatlantern-encode" < "$tmp/lines" > "$tmp/frames"
+    "$run" "$bin/oatlantern-encode" < "$tmp/lines" > "$tmp/frames"
     [ "$(wc -c < "$tmp/frames")" -eq $((18 * $(wc -l < "$tmp/lines"))) ] || fail "$bin: the frames' size"
-    "$bin/oatlantern-decode" < "$tmp/frames" > "$tmp/read"
+    "$run" "$bin/oatlantern-decode" < "$tmp/frames" > "$tmp/read"
     sed 's/$/ 0 0/' "$tmp/lines" > "$tmp/wanted"
     same "records come back, number and mark 0" "$tmp/wanted" "$tmp/read"
-    "$bin/oatlantern-encode" < "$tmp/read" > "$tmp/again"
+    "$run" "$bin/oatlantern-encode" < "$tmp/read" > "$tmp/again"
     same "clean frames come back" "$tmp/frames" "$tmp/again"
 
     # Other layouts of the same numbers.
-    sed 's/ /\t  /g; s/^/ /; s/$/ \r/' "$tmp/lines" | "$bin/oatlantern-encode" > "$tmp/again"
+    sed 's/ /\t  /g; s/^/ /; s/$/ \r/' "$tmp/lines" | "$run" "$bin/oatlantern-encode" > "$tmp/again"
     same "spaces, tabs, carriage returns" "$tmp/frames" "$tmp/again"
-    sed 's/\([0-9][0-9]*\)/000000000000000000000000\1/g' "$tmp/lines" | "$bin/oatlantern-encode" > "$tmp/again"
+    sed 's/\([0-9][0-9]*\)/000000000000000000000000\1/g' "$tmp/lines" | "$run" "$bin/oatlantern-encode" > "$tmp/again"
     same "leading zeros" "$tmp/frames" "$tmp/again"
-    printf '%s' "$(cat "$tmp/lines")" | "$bin/oatlantern-encode" > "$tmp/again"
+    printf '%s' "$(cat "$tmp/lines")" | "$run" "$bin/oatlantern-encode" > "$tmp/again"
     same "no newline at the end" "$tmp/frames" "$tmp/again"
 
     # The worked frames: zero; only place 104; only places 11 and 61; only place 21.
     z='\0\0\0\0\0\0\0\0\0\0\0\0\0\0\0\0\0\0'
     printf "$z"'\0\0\0\0\0\0\0\0\0\0\0\0\1\0\0\0\0\0\0\40\0\0\0\0\0\10\0\0\0\0\0\0\0\0\0\0\0\0\10\0\0\0\0\0\0\0\0\0\0\0\0\0\0\0' > "$tmp/worked"
-    "$bin/oatlantern-decode" < "$tmp/worked" > "$tmp/read"
+    "$run" "$bin/oatlantern-decode" < "$tmp/worked" > "$tmp/read"
     {
         echo '0 0 0 0 0 0 0 0 0 0 0 0 0 0 0 0 0 0 0 0 0 0 0 0 0 0 0 0 0 0'
         echo '0 0 0 0 0 0 0 0 0 0 0 0 0 0 0 0 0 0 0 0 0 0 0 0 0 0 0 0 15 0'
@@ -91,13 +93,13 @@ for bin in $out $out/sanitized; do
     same "worked frames" "$tmp/wanted" "$tmp/read"
 
     # A mended frame is written as it was mended.
-    sed -n '2p' "$tmp/read" | "$bin/oatlantern-encode" > "$tmp/again"
+    sed -n '2p' "$tmp/read" | "$run" "$bin/oatlantern-encode" > "$tmp/again"
     printf "$z" > "$tmp/wanted"
     same "a mended frame" "$tmp/wanted" "$tmp/again"
 
     # Nothing in, nothing out.
-    "$bin/oatlantern-decode" < /dev/null > "$tmp/read"
-    "$bin/oatlantern-encode" < /dev/null > "$tmp/again"
+    "$run" "$bin/oatlantern-decode" < /dev/null > "$tmp/read"
+    "$run" "$bin/oatlantern-encode" < /dev/null > "$tmp/again"
     same "nothing" "$tmp/read" "$tmp/again"
     same "nothing" /dev/null "$tmp/again"
 
@@ -141,7 +143,7 @@ for bin in $out $out/sanitized; do
     # Lines of a million bytes: spaces, digits, numbers.
     head -c 1000000 /dev/zero | tr '\0' ' ' > "$tmp/in"
     echo "$sound" >> "$tmp/in"
-    "$bin/oatlantern-encode" < "$tmp/in" > "$tmp/again"
+    "$run" "$bin/oatlantern-encode" < "$tmp/in" > "$tmp/again"
     same "a million spaces" "$tmp/first" "$tmp/again"
     { head -c 1000000 /dev/zero | tr '\0' 9; echo " ${sound#0 }"; } > "$tmp/in"
     refused "a million digits" oatlantern-encode "$tmp/in" 1 "oatlantern-encode: line 1: $large"
@@ -151,16 +153,16 @@ for bin in $out $out/sanitized; do
     # Arguments, and an output that takes nothing.
     for p in decode encode; do
         status=0
-        "$bin/oatlantern-$p" --what < /dev/null > "$tmp/got" 2> "$tmp/said" || status=$?
+        "$run" "$bin/oatlantern-$p" --what < /dev/null > "$tmp/got" 2> "$tmp/said" || status=$?
         [ $status -eq 2 ] && [ ! -s "$tmp/got" ] || fail "$bin: $p with an argument: status $status"
         checks=$((checks + 1))
     done
     if [ -e /dev/full ]; then
         status=0
-        "$bin/oatlantern-decode" < "$tmp/frames" > /dev/full 2> "$tmp/said" || status=$?
+        "$run" "$bin/oatlantern-decode" < "$tmp/frames" > /dev/full 2> "$tmp/said" || status=$?
         [ $status -eq 1 ] && [ "$(wc -l < "$tmp/said")" -eq 1 ] || fail "$bin: decode on a full output: status $status"
         status=0
-        "$bin/oatlantern-encode" < "$tmp/lines" > /dev/full 2> "$tmp/said" || status=$?
+        "$run" "$bin/oatlantern-encode" < "$tmp/lines" > /dev/full 2> "$tmp/said" || status=$?
         [ $status -eq 1 ] && [ "$(wc -l < "$tmp/said")" -eq 1 ] || fail "$bin: encode on a full output: status $status"
         checks=$((checks + 2))
     fi

@@ -1,9 +1,9 @@
 #!/usr/bin/env python3
 """Holds the listing program to the independent one.
 
-    listings.py LIST OUTSIDE N SEED
+    listings.py OUTSIDE N SEED LIST..
 
-OUTSIDE writes N recordings with their listings, sound and damaged, the named edges first. LIST is run on each, from a file;
+OUTSIDE writes N recordings with their listings, sound and damaged, the named edges first. LIST, one or more words, is run on each, from a file;
 on some also from a pipe in small pieces. Whatever it prints has to be the listing, byte for byte, and nothing may stand on
 standard error. The last line is `compared N cases, M differ`; the exit is 1 if any differ or none was compared.
 """
@@ -16,7 +16,7 @@ from pathlib import Path
 
 def in_pieces(program, data, size):
     """What the program prints when its input comes in pieces."""
-    process = subprocess.Popen([program], stdin=subprocess.PIPE, stdout=subprocess.PIPE, stderr=subprocess.PIPE)
+    process = subprocess.Popen(program, stdin=subprocess.PIPE, stdout=subprocess.PIPE, stderr=subprocess.PIPE)
     try:
         for at in range(0, len(data), size):
             process.stdin.write(data[at:at + size])
@@ -26,7 +26,7 @@ def in_pieces(program, data, size):
     return process.communicate()
 
 
-def main(program, outside, count, seed):
+def main(outside, count, seed, *program):
     compared, differ, refused = 0, 0, 0
     with tempfile.TemporaryDirectory() as folder:
         subprocess.run([outside, "recordings", folder, count, seed], check=True)
@@ -34,7 +34,7 @@ def main(program, outside, count, seed):
             expected = path.with_suffix(".list").read_bytes()
             refused += expected.startswith(b"refused")
             with path.open("rb") as recording:
-                run = subprocess.run([program], stdin=recording, capture_output=True, check=False)
+                run = subprocess.run(program, stdin=recording, capture_output=True, check=False)
             answers = [(run.stdout, run.stderr, "from a file")]
             if n % 10 == 0 and path.stat().st_size < 3000:
                 answers.append((*in_pieces(program, path.read_bytes(), 1 + n % 7), "in pieces"))
@@ -49,6 +49,6 @@ def main(program, outside, count, seed):
 
 
 if __name__ == "__main__":
-    if len(sys.argv) != 5:
+    if len(sys.argv) < 5:
         sys.exit(__doc__)
     sys.exit(main(*sys.argv[1:]))

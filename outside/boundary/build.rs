@@ -1,4 +1,4 @@
-//! Links the archive with the two functions, and builds the plain C ones beside it.
+//! For the benchmark (feature `archive`): links the archive with the two functions, and builds the plain C ones beside it.
 //! OATLANTERN_ARCHIVE names the archive or the folder that it is in; CC names the C compiler.
 
 use std::env;
@@ -12,6 +12,13 @@ fn main() {
     let out = PathBuf::from(env::var_os("OUT_DIR").expect("cargo sets it"));
 
     println!("cargo:rerun-if-env-changed=OATLANTERN_ARCHIVE");
+    if env::var_os("CARGO_FEATURE_ARCHIVE").is_none() {
+        return;
+    }
+    if env::var("CARGO_CFG_TARGET_ARCH").as_deref() != Ok("x86_64") {
+        eprintln!("the archive is for x86-64, and this machine is not: no times can be taken here");
+        std::process::exit(1);
+    }
     let given = env::var_os("OATLANTERN_ARCHIVE")
         .map_or_else(|| here.join("../../target/staticlib"), PathBuf::from);
     let archive = if given.is_dir() {

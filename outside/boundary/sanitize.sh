@@ -1,12 +1,14 @@
 #!/bin/sh
-# Builds sanitize.c with the sanitizers, links the archive (OATLANTERN_ARCHIVE, or ../../target/staticlib) and runs it.
+# Builds sanitize.c with the sanitizers (host/tools.sh says which), links the archive (OATLANTERN_ARCHIVE, or ../../target/staticlib) and runs it.
 set -eu
 cd "$(dirname "$0")"
+. ../../host/tools.sh
 archive=${OATLANTERN_ARCHIVE:-../../target/staticlib}
 [ -d "$archive" ] && archive=$archive/libgateway.a
 [ -f "$archive" ] || { echo "sanitize.sh: $archive is not there: run \`rt staticlib gateway\` at the repository's root" >&2; exit 1; }
 tmp=$(mktemp -d)
 trap 'rm -rf "$tmp"' EXIT
-${CC:-gcc} -std=c99 -Wall -Wextra -pedantic -Werror -g -O1 -fsanitize=address,undefined -fno-sanitize-recover=all \
+# the words of $sanitizers are split on purpose
+$CC -std=c99 -Wall -Wextra -pedantic -Werror -g -O1 $sanitizers \
     -I../../include -o "$tmp/sanitize" sanitize.c "$archive"
-"$tmp/sanitize" "$@"
+"$run" "$tmp/sanitize" "$@"

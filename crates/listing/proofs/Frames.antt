@@ -13,12 +13,12 @@ use Rattle.frame.specs.declared.Reading.{Reading}
 use Rattle.blocks.specs.Blocks.{part}
 use Rattle.blocks.specs.Walk.{longest}
 use Rattle.blocks.specs.Frames.{afterHead, foundAt, framesFrom}
-use Rattle.recording.specs.Judged.{repairBy, breakBy, repairedIn, breaksFrom, tallyOf}
+use Rattle.recording.specs.Judged.{repairBy, breakBy, repairedIn, breaksFrom, countsOf}
 use Rattle.blocks.specs.declared.Found.{Found}
 use Rattle.blocks.specs.declared.Found.the-variants.{At, Nothing}
-use Rattle.recording.specs.declared.Tally.{Tally}
+use Rattle.recording.specs.declared.Counts.{Counts}
 use Rattle.blocks.proofs.Frames.{frames-none, frames-more}
-use Rattle.recording.proofs.Counts.{Counting, counting-start, counting-done, counting-on}
+use Rattle.recording.proofs.Counting.{Counting, counting-start, counting-done, counting-on}
 use Rattle.text.specs.Laid.{laid, after}
 use Rattle.text.proofs.Laid.{laid-none, put-then}
 use Rattle.listing.specs.Lines.{frameLine, lastLine}
@@ -55,7 +55,7 @@ module _ {s before : List ℕ} {start : ℕ} {o : List ℕ} {end at left count r
   listing-done e p =
       put-as before start (l .text ++ lastLine repaired breaks) (bodyOf (framesFrom s afterHead 0))
       (ap (λ (t : List ℕ). t ++ lastLine repaired breaks) lines
-      ∙ ap (λ (t : Tally). linesFrom 1 (framesFrom s afterHead 0) ++ lastLine (t .repaired) (t .breaks)) (counting-done (l .counts) e))
+      ∙ ap (λ (t : Counts). linesFrom 1 (framesFrom s afterHead 0) ++ lastLine (t .repaired) (t .breaks)) (counting-done (l .counts) e))
       (put-then before start (l .text) (lastLine repaired breaks) (l .put) p)
     where
       lines : l .text ≡ linesFrom 1 (framesFrom s afterHead 0)

@@ -37,7 +37,7 @@ use Rattle.blocks.specs.declared.Walked.the-variants.{Whole, Refused}
 use Rattle.blocks.proofs.Blocks.{head-told}
 use Rattle.blocks.proofs.Walks.{Further, Passed, passed-head, passed-voice, step-passed, step-further, end-room, whole-short}
 use Rattle.blocks.proofs.Frames.{Within, found-within, frames-none, frames-more, frames-whole}
-use Rattle.recording.proofs.Counts.{repair-small, break-small, repaired-more, breaks-more}
+use Rattle.recording.proofs.Counting.{repair-small, break-small, repaired-more, breaks-more}
 use Rattle.text.specs.Ascii.{ascii}
 use Rattle.text.specs.Decimal.{decimal}
 use Rattle.text.proofs.Decimal.{decimal-most}

@@ -26,7 +26,7 @@ use Rattle.recording.specs.declared.Judged.the-variants as Judged
 use Rattle.blocks.proofs.Voices.{Sized, voice-sized, voices-none, voices-more, block-refused}
 use Rattle.blocks.proofs.Walks.{whole-short}
 use Rattle.blocks.proofs.Frames.{frames-refused}
-use Rattle.recording.proofs.Counts.{repaired-more, breaks-more}
+use Rattle.recording.proofs.Counting.{repaired-more, breaks-more}
 use Rattle.promises.proofs.Whole.{whole-opened, laid-more, laid-none, length-cut, frames-in-more, frames-in-none}
 
 -- ---- the voice blocks of a recording that is not refused, and of one that is

@@ -11,7 +11,8 @@ use Rattle.gains.specs.Tables.{cgTable, pgTable}
 use Rattle.gains.proofs.Laws.{cg-nearest, pg-nearest, cg-back, pg-back, cg-mirrored}
 use Rattle.delays.proofs.Table.{twelfths-rise, byte-below, rank-byte, rank-below, byte-rank}
 use Rattle.delays.proofs.Laws.{codes-whole, window-start, window-end}
-use Rattle.lsp.proofs.Laws.{of-four, mark-in-order, mark-falls}
+use Rattle.laws.proofs.Cases.{of-four}
+use Rattle.lsp.proofs.Laws.{mark-in-order, mark-falls}
 use Rattle.codebook.specs.Code.{codeOf}
 use Rattle.codebook.specs.Draw.{wrapped, drawOf}
 use Rattle.codebook.proofs.Laws.{code-ternary, one-of-three, overlap, wrapped-congruent, sum-only, position-range}

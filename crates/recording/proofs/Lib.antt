@@ -1,3 +1,3 @@
-pub mod Counts
+pub mod Counting
 pub mod Passes
 pub mod Determined

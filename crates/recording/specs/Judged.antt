@@ -9,7 +9,7 @@ use Rattle.blocks.specs.Walk.{walkedOf}
 use Rattle.blocks.specs.Frames.{framesOf}
 use Rattle.blocks.specs.declared.Walked.{Walked}
 use Rattle.blocks.specs.declared.Walked.the-variants as Walked
-use Rattle.recording.specs.declared.Tally.{Tally}
+use Rattle.recording.specs.declared.Counts.{Counts}
 use Rattle.recording.specs.declared.Judged.{Judged}
 use Rattle.recording.specs.declared.Judged.the-variants.{Sound, Refused}
 
@@ -34,8 +34,8 @@ breaksFrom n [] = 0
 breaksFrom n (f ∷ fs) = breakBy n (readingOf f .indices .sy) + breaksFrom (suc n) fs
 
 -- the counts of frames numbered from 1 on
-abbrev pub tallyOf : List (List ℕ) → Tally
-tallyOf frames = record { repaired = repairedIn frames; breaks = breaksFrom 1 frames }
+abbrev pub countsOf : List (List ℕ) → Counts
+countsOf frames = record { repaired = repairedIn frames; breaks = breaksFrom 1 frames }
 
 abbrev pub judgedBy : Walked → List (List ℕ) → Judged
 judgedBy (Walked.Whole h) frames =

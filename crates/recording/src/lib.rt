@@ -11,7 +11,7 @@ ghost use Prim.Native.Nat.{_≤_};
 ghost use lib.ListN.{length};
 ghost use Rattle.blocks.specs.Walk.{longest};
 ghost use Rattle.blocks.specs.Frames.{afterHead, framesFrom};
-ghost use Rattle.recording.specs.Judged.{repairBy, breakBy, judgedOf, tallyOf};
+ghost use Rattle.recording.specs.Judged.{repairBy, breakBy, judgedOf, countsOf};
 ghost use Rattle.recording.specs.Pass.{heardIn, nothingHeard, startOf, nextOf, heardAt};
 
 // A sound recording told in numbers.
@@ -29,7 +29,7 @@ pub enum Judged {
 }
 
 // Repaired frames and sync breaks.
-pub struct Tally {
+pub struct Counts {
     pub repaired: u32,
     pub breaks: u32,
 }
@@ -82,9 +82,9 @@ pub fn judge(s: &[u8]) -> Judged
 }
 
 // The counts of all frames.
-fn count_frames(s: &[u8]) -> Tally
+fn count_frames(s: &[u8]) -> Counts
     requires { ⌜ length (now s) ≤ longest ⌝ }
-    ensures { λ r. ⌜ r ≡ tallyOf (framesFrom (now (s .entry)) afterHead 0) ⌝ }
+    ensures { λ r. ⌜ r ≡ countsOf (framesFrom (now (s .entry)) afterHead 0) ⌝ }
 {
     let mut at = 14;
     let mut left = 0;
@@ -93,7 +93,7 @@ fn count_frames(s: &[u8]) -> Tally
     let mut breaks: u32 = 0;
     loop {
         match blocks::find(s, at, left) {
-            Found::Nothing => return Tally { repaired, breaks },
+            Found::Nothing => return Counts { repaired, breaks },
             Found::At(first, rest) => {
                 let end = first + 18;
                 let reading = frame::read(&s[first..end]);

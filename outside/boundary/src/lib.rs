@@ -1,11 +1,11 @@
-//! The two functions of the archive for Rust, the plain C ones that they are timed beside, and
-//! buffers that notice a byte written outside them.
-
-use std::ptr;
+//! What the comparison and the benchmark share: which function, its lengths, what the independent
+//! program answers; and, for the benchmark (feature `archive`), the archive's functions and the plain
+//! C ones that they are timed beside.
 
 /// A function of the boundary: bytes to read and their count, bytes to write and theirs.
 pub type Function = unsafe extern "C" fn(*const u8, usize, *mut u8, usize) -> i32;
 
+#[cfg(feature = "archive")]
 mod archive {
     extern "C" {
         pub fn oatlantern_read_frame(
@@ -23,6 +23,7 @@ mod archive {
     }
 }
 
+#[cfg(feature = "archive")]
 mod c {
     extern "C" {
         pub fn plain_read_frame(
@@ -49,6 +50,7 @@ pub enum Which {
 
 impl Which {
     /// The archive's.
+    #[cfg(feature = "archive")]
     pub fn archive(self) -> Function {
         match self {
             Which::Reader => archive::oatlantern_read_frame,
@@ -57,6 +59,7 @@ impl Which {
     }
 
     /// The one in plain C.
+    #[cfg(feature = "archive")]
     pub fn plain(self) -> Function {
         match self {
             Which::Reader => c::plain_read_frame,
@@ -87,65 +90,8 @@ pub fn call(function: Function, given: &[u8], lent: &mut [u8]) -> i32 {
     unsafe { function(given.as_ptr(), given.len(), lent.as_mut_ptr(), lent.len()) }
 }
 
-/// The same with a null pointer for each buffer of length 0.
-pub fn call_with_null(function: Function, given: &[u8], lent: &mut [u8]) -> i32 {
-    let from = if given.is_empty() {
-        ptr::null()
-    } else {
-        given.as_ptr()
-    };
-    let to = if lent.is_empty() {
-        ptr::null_mut()
-    } else {
-        lent.as_mut_ptr()
-    };
-    // SAFETY: as above; with length 0 the function touches nothing, which is what is tried here.
-    unsafe { function(from, given.len(), to, lent.len()) }
-}
-
-/// A buffer between guard bytes, at a place that has no alignment to speak of.
-pub struct Guarded {
-    bytes: [u8; Guarded::SIZE],
-    from: usize,
-    to: usize,
-}
-
-impl Guarded {
-    const SIZE: usize = 256;
-    const GUARD: usize = 40;
-    /// The longest buffer.
-    pub const ROOM: usize = Guarded::SIZE - 2 * Guarded::GUARD - 16;
-
-    fn guard(at: usize) -> u8 {
-        (at as u8).wrapping_mul(29) ^ 0xA5
-    }
-
-    /// A copy of some bytes, moved on by `shift` (at most 15).
-    pub fn new(content: &[u8], shift: usize) -> Self {
-        assert!(content.len() <= Guarded::ROOM && shift < 16);
-        let from = Guarded::GUARD + shift;
-        let to = from + content.len();
-        let mut bytes = std::array::from_fn(Guarded::guard);
-        bytes[from..to].copy_from_slice(content);
-        Guarded { bytes, from, to }
-    }
-
-    pub fn content(&self) -> &[u8] {
-        &self.bytes[self.from..self.to]
-    }
-
-    pub fn content_mut(&mut self) -> &mut [u8] {
-        &mut self.bytes[self.from..self.to]
-    }
-
-    /// Whether every guard byte is as it was.
-    pub fn is_whole(&self) -> bool {
-        let guards = (0..self.from).chain(self.to..Guarded::SIZE);
-        guards
-            .into_iter()
-            .all(|at| self.bytes[at] == Guarded::guard(at))
-    }
-}
+/// The longest buffer of a case.
+pub const ROOM: usize = 176;
 
 /// Bytes as text.
 pub fn hex(bytes: &[u8]) -> String {

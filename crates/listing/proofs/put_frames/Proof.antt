@@ -1,7 +1,7 @@
 use Rattle.listing.proofs.Frames.{Listing, listing-start, listing-done, taken-fits, listing-on}
 use Rattle.listing.proofs.Puts.{put-length}
 use Rattle.blocks.proofs.Frames.{Within, found-within}
-use Rattle.recording.proofs.Counts.{Counting, counting-on}
+use Rattle.recording.proofs.Counting.{Counting, counting-on}
 use borrow.Author.Needs.{needs}
 use lib.ListN.{length}
 use native.Mathlib.Omega.{arith}

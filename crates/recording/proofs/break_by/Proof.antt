@@ -1,4 +1,4 @@
-use Rattle.recording.proofs.Counts.{odd-none, odd-one, even-none, even-one}
+use Rattle.recording.proofs.Counting.{odd-none, odd-one, even-none, even-one}
 use Rattle.recording.proofs.break_by.Statement.{statement}
 use Rattle.recording.proofs.break_by.Tie as tie
 

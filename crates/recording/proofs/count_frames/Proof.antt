@@ -4,7 +4,7 @@ use native.Mathlib.Omega.{arith}
 use lib.ListN.{length}
 use borrow.Author.Needs.{needs}
 use Rattle.blocks.proofs.Frames.{found-within}
-use Rattle.recording.proofs.Counts.{Counting, counting-start, counting-done, counting-on}
+use Rattle.recording.proofs.Counting.{Counting, counting-start, counting-done, counting-on}
 use Rattle.recording.proofs.count_frames.Statement.{statement}
 use Rattle.recording.proofs.count_frames.Tie as tie
 

@@ -1,6 +1,6 @@
 use mathlib.Core.Path.{_∙_, sym}
 use Rattle.blocks.proofs.Walks.{whole-short}
-use Rattle.recording.proofs.Counts.{judge-refused, judge-sound}
+use Rattle.recording.proofs.Counting.{judge-refused, judge-sound}
 use borrow.Author.Needs.{needs}
 use Rattle.recording.proofs.judge.Statement.{statement}
 use Rattle.recording.proofs.judge.Tie as tie

@@ -1,4 +1,4 @@
-use Rattle.recording.proofs.Counts.{repair-none, repair-one}
+use Rattle.recording.proofs.Counting.{repair-none, repair-one}
 use Rattle.recording.proofs.repair_by.Statement.{statement}
 use Rattle.recording.proofs.repair_by.Tie as tie
 

@@ -21,8 +21,8 @@ use Rattle.blocks.specs.declared.Walked.{Walked}
 use Rattle.blocks.specs.declared.Walked.the-variants as Walked
 use Rattle.blocks.specs.declared.Found.the-variants.{At, Nothing}
 use Rattle.blocks.proofs.Frames.{Within, found-within, frames-none, frames-more, frames-whole}
-use Rattle.recording.specs.Judged.{repairBy, repairedIn, syncAt, breakBy, breaksFrom, tallyOf, judgedBy, judgedOf}
-use Rattle.recording.specs.declared.Tally.{Tally}
+use Rattle.recording.specs.Judged.{repairBy, repairedIn, syncAt, breakBy, breaksFrom, countsOf, judgedBy, judgedOf}
+use Rattle.recording.specs.declared.Counts.{Counts}
 use Rattle.recording.specs.declared.Judged.the-variants.{Sound, Refused}
 
 -- the loop that counts: what was counted and what is left make the counts of all frames
@@ -82,7 +82,7 @@ breaks-more n f fs = refl
 
 module _ {s : List ℕ} {at left count repaired breaks : ℕ} (c : Counting s at left count repaired breaks) where
   pub counting-done : foundAt s at left ≡ Nothing
-      → record { repaired = repaired; breaks = breaks } ≡ tallyOf (framesFrom s afterHead 0)
+      → record { repaired = repaired; breaks = breaks } ≡ countsOf (framesFrom s afterHead 0)
   unfolding repairedIn breaksFrom
   counting-done e =
       let r : repaired ≡ repairedIn (framesFrom s afterHead 0) = sym (add-zero repaired) ∙ (rw (frames-none s at left e) at (c .repairs)) in
@@ -142,10 +142,10 @@ pub judge-refused : (s : List ℕ) (cause : Cause) → walkedOf s ≡ Walked.Ref
 unfolding judgedOf
 judge-refused s cause e = sym (ap (λ (w : Walked). judgedBy w (framesOf s)) e)
 
-pub judge-sound : (s : List ℕ) (h : Heading) (t : Tally) → walkedOf s ≡ Walked.Whole h → t ≡ tallyOf (framesFrom s afterHead 0)
+pub judge-sound : (s : List ℕ) (h : Heading) (t : Counts) → walkedOf s ≡ Walked.Whole h → t ≡ countsOf (framesFrom s afterHead 0)
     → Sound (record { unit = h .unit; number = h .number; frames = h .frames; repaired = t .repaired; breaks = t .breaks }) ≡ judgedOf s
 unfolding judgedOf
 judge-sound s h t e c =
-    ap (λ (x : Tally). Sound (record { unit = h .unit; number = h .number; frames = h .frames; repaired = x .repaired; breaks = x .breaks })) c
+    ap (λ (x : Counts). Sound (record { unit = h .unit; number = h .number; frames = h .frames; repaired = x .repaired; breaks = x .breaks })) c
     ∙ ap (judgedBy (Walked.Whole h)) (sym (frames-whole s h e))
     ∙ sym (ap (λ (w : Walked). judgedBy w (framesOf s)) e)

@@ -1,0 +1,13 @@
+#!/bin/sh
+# The archive (OATLANTERN_ARCHIVE, or ../../target/staticlib) against the independent program: builds answers.c on it and runs `compare`,
+# which asks it over a pipe. compare.sh [N [SEED]]
+set -eu
+cd "$(dirname "$0")"
+. ../../host/tools.sh
+archive=${OATLANTERN_ARCHIVE:-../../target/staticlib}
+[ -d "$archive" ] && archive=$archive/libgateway.a
+[ -f "$archive" ] || { echo "compare.sh: $archive is not there: run \`rt staticlib gateway\` at the repository's root" >&2; exit 1; }
+tmp=$(mktemp -d)
+trap 'rm -rf "$tmp"' EXIT
+$CC -std=c11 -Wall -Wextra -pedantic -Werror -O2 -I../../include -o "$tmp/answers" answers.c "$archive"
+cargo run --offline --release --quiet --bin compare -- "${1:-500000}" "${2:-1}" "$run" "$tmp/answers"
