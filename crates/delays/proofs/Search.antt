@@ -2,23 +2,16 @@
 -- Assumes nothing.
 use mathlib.Core.Path.{_≡_, _∙_, sym, refl, ap}
 use mathlib.Core.Bool.{cond}
+use mathlib.Core.List.{List}
 use Prim.Native.Nat.{ℕ, _+_, _-_, _/_, _<_, _≤_}
 use native.Mathlib.Omega.{arith}
 use native.Mathlib.Decide.{decLt}
 use borrow.Author.Tests.{lt-ltb, le-ltb}
 use lib.Dec.{ltb, eqb, eqb→eq}
-use lib.ListN.{length}
-use Rattle.laws.proofs.Table.{at}
+use lib.ListN.{length, getD}
 use Rattle.laws.proofs.Place.{place-within}
 use Rattle.delays.specs.Table.{delays, twelfthsOf, rankWith}
-use Rattle.delays.proofs.Table.{delays-long, rank-twelfths, twelfths-rank}
-
-unfoldable pub candidateOf : ℕ → ℕ
-candidateOf delay =
-    cond (ltb delay 240) 0
-    (cond (ltb delay 312) ((delay - 240) / 4)
-    (cond (ltb delay 408) (18 + (delay - 312) / 3)
-    (cond (ltb delay 960) (50 + (delay - 408) / 4) (cond (ltb delay 1776) (188 + (delay - 960) / 12) 255))))
+use Rattle.delays.proofs.Table.{delays-long, twelfths-high, candidateOf, candidate-twelfths, rank-twelfths, twelfths-rank}
 
 -- the stretch that a delay lies in gives its candidate
 module _ {delay : ℕ} where
@@ -48,21 +41,28 @@ module _ {delay : ℕ} where
   too-long l =
       simp (le-ltb delay 240 (omega arith), le-ltb delay 312 (omega arith), le-ltb delay 408 (omega arith), le-ltb delay 960 (omega arith), le-ltb delay 1776 l)
 
--- the candidate of each rank's twelfths is that rank
+-- no other rank can have the delay
 pub only-candidate : {delay r : ℕ} → r ≡ candidateOf delay → (rank : ℕ) → rank < 256 → twelfthsOf rank ≡ delay → r ≡ rank
-unfolding delays twelfthsOf candidateOf
-only-candidate e rank h t =
-    e ∙ ap candidateOf (sym t) ∙ eqb→eq (candidateOf (twelfthsOf rank)) rank (at 0 (λ k x. eqb (candidateOf x) k) delays tt rank h)
+only-candidate e rank h t = e ∙ ap candidateOf (sym t) ∙ candidate-twelfths rank h
 
--- a rank that has the delay is the delay's rank
-pub candidate-has : {delay rank : ℕ} → rank < 256 → twelfthsOf rank ≡ delay → rank ≡ rankWith delay
-candidate-has {delay} {rank} h t = sym (rank-twelfths rank h) ∙ ap rankWith t
+-- an entry of the table lent is the twelfths of its rank
+module _ {table : List ℕ} (t : table ≡ delays) where
+  entry : (rank : ℕ) → getD table rank 0 ≡ twelfthsOf rank
+  unfolding twelfthsOf
+  entry rank = rw t
 
--- where the candidate does not have the delay, no rank has
-pub candidate-lacks : {delay rank : ℕ} → ((k : ℕ) → k < 256 → twelfthsOf k ≡ delay → rank ≡ k) → (twelfthsOf rank ≡ delay → ⊥) → 256 ≡ rankWith delay
-unfolding rankWith
-candidate-lacks {delay} {rank} only lacks = here (decLt (rankWith delay) 256)
-  where
-    here : Dec (rankWith delay < 256) → 256 ≡ rankWith delay
-    here (yes h) = absurd (lacks (ap twelfthsOf (only (rankWith delay) h (twelfths-rank delay h)) ∙ twelfths-rank delay h))
-    here (no n) = omega (arith, place-within delay delays, delays-long)
+  pub entry-below : (rank : ℕ) → rank < 256 → getD table rank 0 < 65536
+  entry-below rank h = rw (entry rank) (omega (arith, twelfths-high rank h))
+
+  -- a rank that has the delay is the delay's rank
+  pub candidate-has : {delay : ℕ} (rank : ℕ) → rank < 256 → getD table rank 0 ≡ delay → rank ≡ rankWith delay
+  candidate-has rank h e = sym (rank-twelfths rank h) ∙ ap rankWith (sym (entry rank) ∙ e)
+
+  -- where the candidate does not have the delay, no rank has
+  pub candidate-lacks : {delay : ℕ} (rank : ℕ) → ((k : ℕ) → k < 256 → twelfthsOf k ≡ delay → rank ≡ k) → (getD table rank 0 ≡ delay → ⊥) → 256 ≡ rankWith delay
+  unfolding rankWith
+  candidate-lacks {delay} rank only lacks = here (decLt (rankWith delay) 256)
+    where
+      here : Dec (rankWith delay < 256) → 256 ≡ rankWith delay
+      here (yes h) = absurd (lacks (entry rank ∙ ap twelfthsOf (only (rankWith delay) h (twelfths-rank delay h)) ∙ twelfths-rank delay h))
+      here (no n) = omega (arith, place-within delay delays, delays-long)

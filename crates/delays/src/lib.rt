@@ -3,8 +3,8 @@
 // A table is taken once in a call, by one of the three functions that answer a table, and lent on.
 ghost use mathlib.Core.Path.{_≡_};
 ghost use Prim.Native.Nat.{ℕ, _<_};
-ghost use Rattle.delays.specs.Table.{delays, bytes, twelfthsOf, byteOf, rankOf, rankWith};
-ghost use Rattle.delays.specs.Codes.{baseOf, afterOf, inWindow, heardOf, codedOf};
+ghost use Rattle.delays.specs.Table.{delays, bytes, twelfthsOf, rankOf, rankWith};
+ghost use Rattle.delays.specs.Codes.{baseOf, heardPair, heardOf, codedPair, codedOf};
 ghost use Rattle.laws.specs.Tabulate.{tabulate};
 
 mod tables;
@@ -30,40 +30,8 @@ fn ranks_by_byte() -> [u8; 256]
     tables::RANKS
 }
 
-// The twelfths of a rank, from the table lent.
-fn twelfths_in(table: &[u16; 256], rank: u8) -> u16
-    requires { ⌜ now table ≡ delays ⌝ }
-    ensures { λ r. ⌜ r ≡ twelfthsOf rank ⌝ }
-{
-    table[rank as usize]
-}
-
-// The twelfths of a rank.
-pub fn twelfths(rank: u8) -> u16
-    ensures { λ r. ⌜ r ≡ twelfthsOf rank ⌝ }
-{
-    let table = twelfths_by_rank();
-    twelfths_in(&table, rank)
-}
-
-// The printed byte of a rank.
-pub fn byte_of(rank: u8) -> u8
-    ensures { λ r. ⌜ r ≡ byteOf rank ⌝ }
-{
-    let bytes = bytes_by_rank();
-    bytes[rank as usize]
-}
-
-// The rank of a printed byte.
-pub fn rank_of(byte: u8) -> u8
-    ensures { λ r. ⌜ r ≡ rankOf byte ⌝ }
-{
-    let ranks = ranks_by_byte();
-    ranks[byte as usize]
-}
-
 // The lowest rank of the window after a rank.
-pub fn base(rank: u8) -> u8
+fn base(rank: u16) -> u16
     ensures { λ r. ⌜ r ≡ baseOf rank ⌝ }
 {
     if rank < 31 {
@@ -75,22 +43,16 @@ pub fn base(rank: u8) -> u8
     rank - 31
 }
 
-// The rank that a six-bit code means after a rank.
-pub fn after(rank: u8, step: u8) -> u8
-    ensures { λ r. ⌜ r ≡ afterOf rank step ⌝ }
+// The two delays in twelfths that the indices of subframes 1 and 2, or 3 and 4, mean.
+fn heard_pair(ranks: &[u8; 256], table: &[u16; 256], first: u16, second: u16) -> [u16; 2]
+    requires { ⌜ now ranks ≡ tabulate rankOf 256 ⌝ }
+    requires { ⌜ now table ≡ delays ⌝ }
+    ensures { λ r. ⌜ r ≡ heardPair first second ⌝ }
 {
-    base(rank) + step % 64
-}
-
-// A rank is in the window after another.
-fn in_window(before: u8, rank: u8) -> bool
-    ensures { λ r. ⌜ r ≡ inWindow before rank ⌝ }
-{
-    let low = base(before);
-    if rank < low {
-        return false;
-    }
-    rank <= low + 63
+    let rank = ranks[(first % 256) as usize];
+    let low = base(rank as u16);
+    let next = low + second % 64;
+    [table[rank as usize], table[next as usize]]
 }
 
 // The four delays in twelfths that a record's four indices mean.
@@ -99,15 +61,9 @@ pub fn heard(codes: [u16; 4]) -> [u16; 4]
 {
     let ranks = ranks_by_byte();
     let table = twelfths_by_rank();
-    let first = ranks[(codes[0] % 256) as usize];
-    let second = after(first, (codes[1] % 64) as u8);
-    let third = ranks[(codes[2] % 256) as usize];
-    let fourth = after(third, (codes[3] % 64) as u8);
-    let a = twelfths_in(&table, first);
-    let b = twelfths_in(&table, second);
-    let c = twelfths_in(&table, third);
-    let d = twelfths_in(&table, fourth);
-    [a, b, c, d]
+    let early = heard_pair(&ranks, &table, codes[0], codes[1]);
+    let late = heard_pair(&ranks, &table, codes[2], codes[3]);
+    [early[0], early[1], late[0], late[1]]
 }
 
 // The codes of four delays, or the first refusal, with its subframe.
@@ -115,6 +71,14 @@ pub enum Coded {
     Codes(u16, u16, u16, u16),
     NotListed(u16),
     OutsideWindow(u16),
+}
+
+// The delays of subframes 1 and 2, or 3 and 4: the rank of the first and the six-bit code of the second, or what the refusal is.
+enum Pair {
+    Inside(u8, u8),
+    FirstNotListed,
+    SecondNotListed,
+    SecondOutside,
 }
 
 // The only rank that can have so many twelfths, by the four stretches.
@@ -145,11 +109,35 @@ fn rank_with(table: &[u16; 256], delay: u32) -> u16
     ensures { λ r. ⌜ r ≡ rankWith delay ⌝ }
 {
     let rank = candidate(delay);
-    let here = twelfths_in(table, rank);
+    let here = table[rank as usize];
     if here as u32 == delay {
         return rank as u16;
     }
     256
+}
+
+// Two delays in twelfths, of subframes 1 and 2 or of 3 and 4: whether each is in the list, then whether the second is in the window.
+fn coded_pair(table: &[u16; 256], first: u32, second: u32) -> Pair
+    requires { ⌜ now table ≡ delays ⌝ }
+    ensures { λ r. ⌜ r ≡ codedPair first second ⌝ }
+{
+    let before = rank_with(table, first);
+    if 255 < before {
+        return Pair::FirstNotListed;
+    }
+    let rank = rank_with(table, second);
+    if 255 < rank {
+        return Pair::SecondNotListed;
+    }
+    let low = base(before);
+    if rank < low {
+        return Pair::SecondOutside;
+    }
+    let step = rank - low;
+    if 63 < step {
+        return Pair::SecondOutside;
+    }
+    Pair::Inside(before as u8, step as u8)
 }
 
 // The codes of four delays in twelfths: subframe by subframe, first whether the delay is in the list, then whether it is in the window.
@@ -157,41 +145,23 @@ pub fn codes(delays: [u32; 4]) -> Coded
     ensures { λ r. ⌜ r ≡ codedOf delays ⌝ }
 {
     let table = twelfths_by_rank();
-    let first = rank_with(&table, delays[0]);
-    if 255 < first {
-        return Coded::NotListed(1);
+    match coded_pair(&table, delays[0], delays[1]) {
+        Pair::FirstNotListed => Coded::NotListed(1),
+        Pair::SecondNotListed => Coded::NotListed(2),
+        Pair::SecondOutside => Coded::OutsideWindow(2),
+        Pair::Inside(a, b) => match coded_pair(&table, delays[2], delays[3]) {
+            Pair::FirstNotListed => Coded::NotListed(3),
+            Pair::SecondNotListed => Coded::NotListed(4),
+            Pair::SecondOutside => Coded::OutsideWindow(4),
+            Pair::Inside(c, d) => {
+                let bytes = bytes_by_rank();
+                Coded::Codes(
+                    bytes[a as usize] as u16,
+                    b as u16,
+                    bytes[c as usize] as u16,
+                    d as u16,
+                )
+            }
+        },
     }
-    let second = rank_with(&table, delays[1]);
-    if 255 < second {
-        return Coded::NotListed(2);
-    }
-    let a = first as u8;
-    let b = second as u8;
-    if !in_window(a, b) {
-        return Coded::OutsideWindow(2);
-    }
-    let third = rank_with(&table, delays[2]);
-    if 255 < third {
-        return Coded::NotListed(3);
-    }
-    let fourth = rank_with(&table, delays[3]);
-    if 255 < fourth {
-        return Coded::NotListed(4);
-    }
-    let c = third as u8;
-    let d = fourth as u8;
-    if !in_window(c, d) {
-        return Coded::OutsideWindow(4);
-    }
-    let bytes = bytes_by_rank();
-    let printed = bytes[a as usize];
-    let step = b - base(a);
-    let later_printed = bytes[c as usize];
-    let later_step = d - base(c);
-    Coded::Codes(
-        printed as u16,
-        step as u16,
-        later_printed as u16,
-        later_step as u16,
-    )
 }

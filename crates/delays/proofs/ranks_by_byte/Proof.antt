@@ -1,14 +1,13 @@
--- `delays::ranks_by_byte` answers the inverse of the printed bytes: a test at each of its entries, which is computed.
+-- `delays::ranks_by_byte` answers the inverse of the printed bytes: each entry is tested against the byte that it leads back to.
 -- Assumes nothing.
 use mathlib.Core.Path.{refl}
-use Rattle.laws.specs.Place.{placeOf}
-use Rattle.delays.specs.Table.{bytes, rankOf}
+use Rattle.delays.specs.Table.{bytes, byteOf}
 use Rattle.delays.proofs.Table.{inverse}
 use Rattle.delays.proofs.ranks_by_byte.Statement.{statement}
 use Rattle.delays.proofs.ranks_by_byte.Tie as tie
 
 returns : tie.Need-returns
-unfolding bytes rankOf placeOf
+unfolding bytes byteOf
 returns c = inverse _ refl tt
 
 pub ranks-by-byte-spec : {M : Type 1} → statement M
