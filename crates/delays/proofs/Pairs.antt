@@ -13,7 +13,7 @@ use Rattle.laws.specs.Table.{both}
 use Rattle.laws.specs.Tabulate.{tabulate}
 use Rattle.laws.proofs.Tabulate.{getD-tabulate}
 use Rattle.delays.specs.Table.{delays, bytes, twelfthsOf, byteOf, rankOf, rankWith}
-use Rattle.delays.specs.Codes.{baseOf, afterOf, firstOf, nextOf, heardPair, heardOf, listed, inWindow, codedPair, unless, pairOf, codedOf}
+use Rattle.delays.specs.Codes.{baseOf, afterOf, firstOf, nextOf, heardPair, heardOf, listed, inWindow, codedPair, bothInside, unless, pairOf, codedOf}
 use Rattle.delays.proofs.Table.{rank-below}
 use Rattle.delays.specs.declared.Coded.{Coded}
 use Rattle.delays.specs.declared.Coded.the-variants.{Codes, NotListed, OutsideWindow}
@@ -100,29 +100,26 @@ pair-carried : (n a b : ℕ) (rest : ℕ → ℕ → Coded) → carried n (coded
 unfolding codedPair
 pair-carried n a b rest = carried-tests n (rankWith a) (rankWith b - baseOf (rankWith a)) rest (listed a) (listed b) (inWindow (rankWith a) (rankWith b))
 
--- the codes where both pairs are inside their windows: the ranks of the first and third delay, and the second and fourth code
-abbrev pub codesOf : ℕ → ℕ → ℕ → ℕ → Coded
-codesOf r s u v = Codes (byteOf r) s (byteOf u) v
-
-pub four-codes : {bytes′ : List ℕ} (r s u v : ℕ) → bytes′ ≡ bytes → Codes (getD bytes′ r 0) s (getD bytes′ u 0) v ≡ codesOf r s u v
+-- the codes from the table of bytes lent
+pub four-codes : {bytes′ : List ℕ} (r s u v : ℕ) → bytes′ ≡ bytes → Codes (getD bytes′ r 0) s (getD bytes′ u 0) v ≡ bothInside r s u v
 unfolding byteOf
 four-codes r s u v e = rw e
 
 -- what the first pair's answer makes of four delays, and what the second's does past it
 module _ (t : List ℕ) where
   abbrev pub later : ℕ → ℕ → Coded
-  later r s = carried 3 (codedPair (getD t 2 0) (getD t 3 0)) (codesOf r s)
+  later r s = carried 3 (codedPair (getD t 2 0) (getD t 3 0)) (bothInside r s)
 
   whole : carried 1 (codedPair (getD t 0 0) (getD t 1 0)) later ≡ codedOf t
   unfolding codedOf
   whole =
       pair-carried 1 (getD t 0 0) (getD t 1 0) later
       ∙ ap (pairOf 1 (getD t 0 0) (getD t 1 0))
-      (pair-carried 3 (getD t 2 0) (getD t 3 0) (codesOf (rankWith (getD t 0 0)) (rankWith (getD t 1 0) - baseOf (rankWith (getD t 0 0)))))
+      (pair-carried 3 (getD t 2 0) (getD t 3 0) (bothInside (rankWith (getD t 0 0)) (rankWith (getD t 1 0) - baseOf (rankWith (getD t 0 0)))))
 
   pub by-first : {p : Pair} → codedPair (getD t 0 0) (getD t 1 0) ≡ p → carried 1 p later ≡ codedOf t
   by-first e = ap (λ (x : Pair). carried 1 x later) (sym e) ∙ whole
 
   pub by-second : {r s : ℕ} {q : Pair} → codedPair (getD t 0 0) (getD t 1 0) ≡ Inside r s → codedPair (getD t 2 0) (getD t 3 0) ≡ q
-      → carried 3 q (codesOf r s) ≡ codedOf t
-  by-second {r} {s} e f = ap (λ (x : Pair). carried 3 x (codesOf r s)) (sym f) ∙ by-first e
+      → carried 3 q (bothInside r s) ≡ codedOf t
+  by-second {r} {s} e f = ap (λ (x : Pair). carried 3 x (bothInside r s)) (sym f) ∙ by-first e

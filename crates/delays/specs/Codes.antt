@@ -52,6 +52,10 @@ codedPair a b =
     (cond (listed b)
     (cond (inWindow (rankWith a) (rankWith b)) (Inside (rankWith a) (rankWith b - baseOf (rankWith a))) SecondOutside) SecondNotListed) FirstNotListed
 
+-- the codes of two pairs inside their windows, from the ranks of the first and third delay and the codes of the second and fourth
+abbrev pub bothInside : ℕ → ℕ → ℕ → ℕ → Coded
+bothInside r s u v = Codes (byteOf r) s (byteOf u) v
+
 -- go on where a test holds, or else answer the refusal
 abbrev pub unless : Bool → Coded → Coded → Coded
 unless holds refusal rest = cond holds rest refusal

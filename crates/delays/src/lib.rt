@@ -4,7 +4,7 @@
 ghost use mathlib.Core.Path.{_≡_};
 ghost use Prim.Native.Nat.{ℕ, _<_};
 ghost use Rattle.delays.specs.Table.{delays, bytes, twelfthsOf, rankOf, rankWith};
-ghost use Rattle.delays.specs.Codes.{baseOf, heardPair, heardOf, codedPair, codedOf};
+ghost use Rattle.delays.specs.Codes.{baseOf, heardPair, heardOf, codedPair, bothInside, codedOf};
 ghost use Rattle.laws.specs.Tabulate.{tabulate};
 
 mod tables;
@@ -140,6 +140,16 @@ fn coded_pair(table: &[u16; 256], first: u32, second: u32) -> Pair
     Pair::Inside(before as u8, step as u8)
 }
 
+// The codes where both pairs are inside their windows: the printed bytes of the first and third delay's ranks, and the second and fourth code.
+fn both_inside(first: u8, second: u8, third: u8, fourth: u8) -> Coded
+    ensures { λ r. ⌜ r ≡ bothInside first second third fourth ⌝ }
+{
+    let bytes = bytes_by_rank();
+    let a = bytes[first as usize];
+    let c = bytes[third as usize];
+    Coded::Codes(a as u16, second as u16, c as u16, fourth as u16)
+}
+
 // The codes of four delays in twelfths: subframe by subframe, first whether the delay is in the list, then whether it is in the window.
 pub fn codes(delays: [u32; 4]) -> Coded
     ensures { λ r. ⌜ r ≡ codedOf delays ⌝ }
@@ -153,15 +163,7 @@ pub fn codes(delays: [u32; 4]) -> Coded
             Pair::FirstNotListed => Coded::NotListed(3),
             Pair::SecondNotListed => Coded::NotListed(4),
             Pair::SecondOutside => Coded::OutsideWindow(4),
-            Pair::Inside(c, d) => {
-                let bytes = bytes_by_rank();
-                Coded::Codes(
-                    bytes[a as usize] as u16,
-                    b as u16,
-                    bytes[c as usize] as u16,
-                    d as u16,
-                )
-            }
+            Pair::Inside(c, d) => both_inside(a, b, c, d),
         },
     }
 }

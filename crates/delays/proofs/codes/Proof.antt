@@ -7,7 +7,7 @@ use borrow.Author.Needs.{needs}
 use lib.ListN.{getD}
 use Rattle.delays.specs.Codes.{codedPair}
 use Rattle.delays.specs.declared.Pair.the-variants.{Inside}
-use Rattle.delays.proofs.Pairs.{by-first, by-second, four-codes}
+use Rattle.delays.proofs.Pairs.{by-first, by-second}
 use Rattle.delays.proofs.codes.Statement.{statement}
 use Rattle.delays.proofs.codes.Tie as tie
 
@@ -41,7 +41,7 @@ returns-6 c =
 
 returns-7 : tie.Need-returns-7
 returns-7 c =
-    four-codes _ _ _ _ (c .bytes-by-rank .ensures)
+    c .both-inside .ensures
     ∙ by-second _ (inside (c .before .before .before .before .before .before)) (sym (c .before .before .before .before .coded-pair2 .ensures) ∙ c .before .before .c .given .1)
 
 pub codes-spec : {M : Type 1} → statement M
@@ -49,5 +49,4 @@ codes-spec =
     tie.close
     (tie.spec (λ c κs. search needs) (search needs) (search needs) (λ c κs. search needs) (search needs) (search needs) (search needs) (search needs)
     (search needs) (search needs) (λ c κs. search needs) (search needs) (search needs) (search needs) (search needs) (λ c κs. search needs)
-    (search needs) (search needs) (λ c. search needs) (search needs) (search needs) (search needs) (λ c. search needs) (search needs)
     returns returns-2 returns-3 returns-4 returns-5 returns-6 returns-7)
