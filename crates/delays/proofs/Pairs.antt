@@ -14,19 +14,26 @@ use Rattle.laws.specs.Tabulate.{tabulate}
 use Rattle.laws.proofs.Tabulate.{getD-tabulate}
 use Rattle.delays.specs.Table.{delays, bytes, twelfthsOf, byteOf, rankOf, rankWith}
 use Rattle.delays.specs.Codes.{baseOf, afterOf, firstOf, nextOf, heardPair, heardOf, listed, inWindow, codedPair, bothInside, unless, pairOf, codedOf}
-use Rattle.delays.proofs.Table.{rank-below}
+use Rattle.delays.proofs.Table.{rank-below, byte-below}
 use Rattle.delays.specs.declared.Coded.{Coded}
 use Rattle.delays.specs.declared.Coded.the-variants.{Codes, NotListed, OutsideWindow}
 use Rattle.delays.specs.declared.Pair.{Pair}
 use Rattle.delays.specs.declared.Pair.the-variants.{Inside, FirstNotListed, SecondNotListed, SecondOutside}
 
+-- an index's lowest eight bits are a byte, and a six-bit code leads to one of the 256 ranks
+pub byte-part : (a : ℕ) → a % 256 < 256
+byte-part a = omega arith
+
+pub next-below : {low : ℕ} (rank b : ℕ) → low ≡ baseOf rank → low + b % 64 < 256
+next-below rank b e = omega arith
+
 -- the rank of an index of subframe 1 or 3, from the table lent
 module _ {ranks : List ℕ} (t : ranks ≡ tabulate rankOf 256) (a : ℕ) where
   rank-read : getD ranks (a % 256) 0 ≡ firstOf a
-  rank-read = rw t (getD-tabulate rankOf 0 256 (a % 256) (omega arith))
+  rank-read = rw t (getD-tabulate rankOf 0 256 (a % 256) (byte-part a))
 
   pub rank-read-below : getD ranks (a % 256) 0 < 256
-  rank-read-below = rw rank-read (rank-below (a % 256) (omega arith))
+  rank-read-below = rw rank-read (rank-below (a % 256) (byte-part a))
 
   -- the two delays of a pair, from both tables and the base
   pub pair-heard : {table : List ℕ} {low : ℕ} (b : ℕ) → table ≡ delays → low ≡ baseOf (getD ranks (a % 256) 0)
@@ -100,10 +107,15 @@ pair-carried : (n a b : ℕ) (rest : ℕ → ℕ → Coded) → carried n (coded
 unfolding codedPair
 pair-carried n a b rest = carried-tests n (rankWith a) (rankWith b - baseOf (rankWith a)) rest (listed a) (listed b) (inWindow (rankWith a) (rankWith b))
 
--- the codes from the table of bytes lent
-pub four-codes : {bytes′ : List ℕ} (r s u v : ℕ) → bytes′ ≡ bytes → Codes (getD bytes′ r 0) s (getD bytes′ u 0) v ≡ bothInside r s u v
-unfolding byteOf
-four-codes r s u v e = rw e
+-- the codes from the table of bytes
+module _ {table : List ℕ} (t : table ≡ bytes) where
+  pub byte-read-below : (rank : ℕ) → rank < 256 → getD table rank 0 < 256
+  unfolding byteOf
+  byte-read-below rank h = rw t (byte-below rank h)
+
+  pub four-codes : (r s u v : ℕ) → Codes (getD table r 0) s (getD table u 0) v ≡ bothInside r s u v
+  unfolding byteOf
+  four-codes r s u v = rw t
 
 -- what the first pair's answer makes of four delays, and what the second's does past it
 module _ (t : List ℕ) where
