@@ -2,8 +2,7 @@
 // and the window of 64 ranks in which subframes 2 and 4 code theirs (3.5.5).
 // A table is taken once in a call, by one of the three functions that answer a table, and lent on.
 ghost use mathlib.Core.Path.{_≡_};
-ghost use Prim.Native.Nat.{ℕ, _<_};
-ghost use Rattle.delays.specs.Table.{delays, bytes, twelfthsOf, rankOf, rankWith};
+ghost use Rattle.delays.specs.Table.{delays, bytes, rankOf, rankWith};
 ghost use Rattle.delays.specs.Codes.{baseOf, heardPair, heardOf, codedPair, bothInside, codedOf};
 ghost use Rattle.laws.specs.Tabulate.{tabulate};
 
@@ -81,51 +80,49 @@ enum Pair {
     SecondOutside,
 }
 
-// The only rank that can have so many twelfths, by the four stretches.
-fn candidate(delay: u32) -> u8
-    ensures { λ r. ⌜ ((rank : ℕ) → rank < 256 → twelfthsOf rank ≡ delay → r ≡ rank) ⌝ }
-{
-    if delay < 240 {
-        return 0;
-    }
-    if delay < 312 {
-        return ((delay - 240) / 4) as u8;
-    }
-    if delay < 408 {
-        return (18 + (delay - 312) / 3) as u8;
-    }
-    if delay < 960 {
-        return (50 + (delay - 408) / 4) as u8;
-    }
-    if delay < 1776 {
-        return (188 + (delay - 960) / 12) as u8;
-    }
-    255
-}
-
-// The rank of a delay in twelfths, or 256 if the list has no such delay.
-fn rank_with(table: &[u16; 256], delay: u32) -> u16
-    requires { ⌜ now table ≡ delays ⌝ }
+// The rank of a delay in twelfths, by the four stretches, or 256 if the list has no such delay.
+fn rank_with(delay: u32) -> u16
     ensures { λ r. ⌜ r ≡ rankWith delay ⌝ }
 {
-    let rank = candidate(delay);
-    let here = table[rank as usize];
-    if here as u32 == delay {
-        return rank as u16;
+    if delay < 240 {
+        return 256;
+    }
+    if delay < 312 {
+        if delay % 4 == 0 {
+            return ((delay - 240) / 4) as u16;
+        }
+        return 256;
+    }
+    if delay < 408 {
+        if delay % 3 == 0 {
+            return (18 + (delay - 312) / 3) as u16;
+        }
+        return 256;
+    }
+    if delay < 960 {
+        if delay % 4 == 0 {
+            return (50 + (delay - 408) / 4) as u16;
+        }
+        return 256;
+    }
+    if delay < 1776 {
+        if delay % 12 == 0 {
+            return (188 + (delay - 960) / 12) as u16;
+        }
+        return 256;
     }
     256
 }
 
 // Two delays in twelfths, of subframes 1 and 2 or of 3 and 4: whether each is in the list, then whether the second is in the window.
-fn coded_pair(table: &[u16; 256], first: u32, second: u32) -> Pair
-    requires { ⌜ now table ≡ delays ⌝ }
+fn coded_pair(first: u32, second: u32) -> Pair
     ensures { λ r. ⌜ r ≡ codedPair first second ⌝ }
 {
-    let before = rank_with(table, first);
+    let before = rank_with(first);
     if 255 < before {
         return Pair::FirstNotListed;
     }
-    let rank = rank_with(table, second);
+    let rank = rank_with(second);
     if 255 < rank {
         return Pair::SecondNotListed;
     }
@@ -154,12 +151,11 @@ fn both_inside(first: u8, second: u8, third: u8, fourth: u8) -> Coded
 pub fn codes(delays: [u32; 4]) -> Coded
     ensures { λ r. ⌜ r ≡ codedOf delays ⌝ }
 {
-    let table = twelfths_by_rank();
-    match coded_pair(&table, delays[0], delays[1]) {
+    match coded_pair(delays[0], delays[1]) {
         Pair::FirstNotListed => Coded::NotListed(1),
         Pair::SecondNotListed => Coded::NotListed(2),
         Pair::SecondOutside => Coded::OutsideWindow(2),
-        Pair::Inside(a, b) => match coded_pair(&table, delays[2], delays[3]) {
+        Pair::Inside(a, b) => match coded_pair(delays[2], delays[3]) {
             Pair::FirstNotListed => Coded::NotListed(3),
             Pair::SecondNotListed => Coded::NotListed(4),
             Pair::SecondOutside => Coded::OutsideWindow(4),
