@@ -1,7 +1,7 @@
 -- A pair of subframes, 1 and 2 or 3 and 4: what each test of `coded_pair` tells of the definitions, and how the answers for two pairs
 -- make those for four subframes.
 -- Assumes nothing.
-use mathlib.Core.Path.{_≡_, _∙_, sym, refl, ap, ap₂}
+use mathlib.Core.Path.{_≡_, _∙_, sym, refl, ap}
 use mathlib.Core.Bool.{Bool, true, false, cond}
 use mathlib.Core.List.{List, [], _∷_}
 use Prim.Native.Nat.{ℕ, _+_, _-_, _%_, _<_, _≤_, min}
@@ -13,7 +13,7 @@ use Rattle.laws.specs.Table.{both}
 use Rattle.laws.specs.Tabulate.{tabulate}
 use Rattle.laws.proofs.Tabulate.{getD-tabulate}
 use Rattle.delays.specs.Table.{delays, bytes, twelfthsOf, byteOf, rankOf, rankWith}
-use Rattle.delays.specs.Codes.{baseOf, afterOf, firstOf, nextOf, heardPair, heardOf, listed, inWindow, codedPair, bothInside, unless, pairOf, codedOf}
+use Rattle.delays.specs.Codes.{baseOf, firstOf, heardPair, heardOf, listed, inWindow, codedPair, bothInside, unless, pairOf, codedOf}
 use Rattle.delays.proofs.Table.{rank-below, byte-below}
 use Rattle.delays.specs.declared.Coded.{Coded}
 use Rattle.delays.specs.declared.Coded.the-variants.{Codes, NotListed, OutsideWindow}

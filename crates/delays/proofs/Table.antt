@@ -1,7 +1,7 @@
 -- The rules of the two lists, each a test that is computed over the whole list.
 -- Assumes nothing.
-use mathlib.Core.Path.{_≡_, _∙_, sym, refl, ap, subst}
-use mathlib.Core.Bool.{Bool, cond}
+use mathlib.Core.Path.{_≡_, _∙_, sym, refl, ap}
+use mathlib.Core.Bool.{cond}
 use mathlib.Core.List.{List, [], _∷_}
 use Prim.Native.Nat.{ℕ, zero, suc, _+_, _-_, _*_, _/_, _<_, _≤_}
 use native.Mathlib.Omega.{arith}
@@ -10,8 +10,7 @@ use lib.Dec.{T, leb, ltb, eqb, eqb→eq, leb→le}
 use lib.ListN.{length, getD}
 use lib.Seq.{ext-getD}
 use Rattle.laws.specs.Table.{both, every}
-use Rattle.laws.specs.Place.{placeOf}
-use Rattle.laws.specs.Tabulate.{tabulate, tabulateFrom}
+use Rattle.laws.specs.Tabulate.{tabulate}
 use Rattle.laws.proofs.Table.{at, both-left, both-right}
 use Rattle.laws.proofs.Place.{place-entry, place-back}
 use Rattle.laws.proofs.Tabulate.{length-tabulate, getD-tabulate}
