@@ -2,12 +2,12 @@
 //! the letter, the lines and the sequence that drives them.
 
 use crate::codes::{self, CODE_LENGTH};
-use crate::delays::{self, base};
+use crate::delays;
 use crate::draws::Draws;
 use crate::gains;
 use crate::lsp::{self, State};
 use crate::refusal::Refusal;
-use crate::tables::{CG, DELAY_BYTES, DELAY_RANKS, PG, TWELFTHS, WIDTHS};
+use crate::tables::{CG, PG, WIDTHS};
 use std::fmt::{Display, Write};
 
 /// Sixteen-bit numbers: the high halves of y0 = 1, y1, y2 ... of 32 bits, whose low bits repeat too soon.
@@ -70,25 +70,30 @@ fn line<T: Display>(
     out.push('\n');
 }
 
+/// What every byte means in subframe 1, with the byte that its delay has when it is sent four times,
+/// and what the six-bit codes mean after each.
 fn delay_tables(out: &mut String) {
-    for rank in 0..256 {
+    for byte in 0..256 {
+        let delay = meant(byte, 0)[0];
         line(
             out,
-            format_args!("delay {rank} {}", TWELFTHS[rank]),
-            Ok([DELAY_BYTES[rank]]),
+            format_args!("delay {byte} {delay}"),
+            delays::codes([delay; 4]).map(|codes| [codes[0]]),
         );
     }
-    for (byte, rank) in DELAY_RANKS.iter().enumerate() {
-        line(out, format_args!("byte {byte}"), Ok([rank]));
-    }
-    for rank in 0..=255u8 {
-        let first = usize::from(base(rank));
+    for byte in 0..256 {
         line(
             out,
-            format_args!("after {rank}"),
-            Ok(&TWELFTHS[first..first + 64]),
+            format_args!("after {byte}"),
+            Ok((0..64).map(|code| meant(byte, code)[1])),
         );
     }
+}
+
+/// The delays of subframes 1 and 2 that a byte and a six-bit code mean.
+fn meant(byte: u16, code: u16) -> [u32; 2] {
+    let [first, second, ..] = delays::delays([byte, code, 0, 0]);
+    [first.into(), second.into()]
 }
 
 fn ternary_codes(out: &mut String) {
@@ -158,20 +163,20 @@ fn averages(out: &mut String) {
     }
 }
 
-/// Sets of four delays that lie on both sides of every window's ends, some of them off the list.
+/// Sets of four delays: in the window of the one before, anywhere, and at both sides of a window's
+/// ends, some of them off the list.
 fn four_delays(out: &mut String) {
     let mut x = Sequence::start();
     for case in 0..1000 {
         let mut before = 0;
         let four = [1, 2, 3, 4].map(|subframe| {
             let (a, b) = (x.next(), x.next());
-            let rank = if subframe % 2 == 1 {
-                i32::from(a % 256)
+            let delay = if subframe % 2 == 1 {
+                before = a % 256;
+                meant(before, 0)[0]
             } else {
-                (i32::from(base(before)) + i32::from(a % 70) - 3).clamp(0, 255)
+                after(before, a)
             };
-            before = rank as u8;
-            let delay = u32::from(TWELFTHS[rank as usize]);
             match b % 24 {
                 0 => delay + 1,
                 1 => delay - 1,
@@ -179,6 +184,21 @@ fn four_delays(out: &mut String) {
             }
         });
         four_line(out, case, four);
+    }
+}
+
+/// How far beyond a window's end a delay is laid, in twelfths.
+const OUTWARD: [u32; 6] = [0, 1, 3, 4, 8, 12];
+
+/// A delay for subframe 2 or 4 after a byte, chosen by a number of the sequence.
+fn after(byte: u16, a: u16) -> u32 {
+    let rest = a / 8;
+    let outward = OUTWARD[usize::from(rest % 6)];
+    match a % 8 {
+        0..=4 => meant(byte, rest % 64)[1],
+        5 => meant(rest % 256, 0)[0],
+        6 => meant(byte, 0)[1] - outward,
+        _ => meant(byte, 63)[1] + outward,
     }
 }
 
@@ -230,7 +250,6 @@ mod tests {
             ("cg ", 33),
             ("pg ", 33),
             ("delay ", 256),
-            ("byte ", 256),
             ("after ", 256),
             ("code ", 513),
             ("near cg ", 2 + 93 + 32 + 2),
@@ -255,8 +274,9 @@ mod tests {
             "cg 32 refused 2 0",
             "pg 31 1991",
             "pg 32 refused 2 0",
-            "delay 0 240 66",
-            "byte 175 255",
+            "delay 0 656 0",
+            "delay 66 240 66",
+            "delay 175 1764 175",
             "code 512 refused 2 0",
             "near cg -2147483648 0",
             "near cg 0 15",

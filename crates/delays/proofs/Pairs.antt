@@ -1,81 +1,137 @@
--- A pair of subframes, 1 and 2 or 3 and 4: what each test of `in_window` and `codes` tells of the definitions, and what the codes and
--- the delays of a pair are made of.
+-- A pair of subframes, 1 and 2 or 3 and 4: what each test of `coded_pair` tells of the definitions, and how the answers for two pairs
+-- make those for four subframes.
 -- Assumes nothing.
-use mathlib.Core.Path.{_≡_, _∙_, sym, refl, ap, subst}
-use mathlib.Core.Bool.{Bool, true, false}
+use mathlib.Core.Path.{_≡_, _∙_, sym, refl, ap}
+use mathlib.Core.Bool.{Bool, true, false, cond}
 use mathlib.Core.List.{List, [], _∷_}
 use Prim.Native.Nat.{ℕ, _+_, _-_, _%_, _<_, _≤_, min}
 use native.Mathlib.Omega.{arith}
-use lib.Dec.{T, leb, ltb, leb→le}
+use lib.Dec.{leb, ltb}
 use lib.ListN.{getD}
 use borrow.Author.Tests.{lt-ltb, le-ltb, le-leb, lt-leb}
+use Rattle.laws.specs.Table.{both}
 use Rattle.laws.specs.Tabulate.{tabulate}
 use Rattle.laws.proofs.Tabulate.{getD-tabulate}
-use Rattle.laws.proofs.Table.{both-left}
-use Rattle.delays.specs.Table.{bytes, twelfthsOf, byteOf, rankOf, rankWith}
-use Rattle.delays.specs.Codes.{baseOf, afterOf, firstOf, nextOf, heardOf, inWindow, unless, pairOf}
+use Rattle.delays.specs.Table.{delays, bytes, twelfthsOf, byteOf, rankOf, rankWith}
+use Rattle.delays.specs.Codes.{baseOf, firstOf, heardPair, heardOf, listed, inWindow, codedPair, bothInside, unless, pairOf, codedOf}
+use Rattle.delays.proofs.Table.{rank-below, byte-below}
 use Rattle.delays.specs.declared.Coded.{Coded}
 use Rattle.delays.specs.declared.Coded.the-variants.{Codes, NotListed, OutsideWindow}
+use Rattle.delays.specs.declared.Pair.{Pair}
+use Rattle.delays.specs.declared.Pair.the-variants.{Inside, FirstNotListed, SecondNotListed, SecondOutside}
 
--- a rank below the base is outside; from the base on, the window's last rank decides
-module _ (before rank : ℕ) {low : ℕ} where
-  pub below-base : low ≡ baseOf before → rank < low → false ≡ inWindow before rank
-  below-base e h = let l : leb (baseOf before) rank ≡ false = lt-leb (baseOf before) rank (omega arith) in rw l
+-- an index's lowest eight bits are a byte, and a six-bit code leads to one of the 256 ranks
+pub byte-part : (a : ℕ) → a % 256 < 256
+byte-part a = omega arith
 
-  pub from-base : low ≡ baseOf before → low ≤ rank → leb rank (low + 63) ≡ inWindow before rank
-  from-base e h = let l : leb (baseOf before) rank ≡ true = le-leb (baseOf before) rank (omega arith) in rw (e, l)
+pub next-below : {low : ℕ} (rank b : ℕ) → low ≡ baseOf rank → low + b % 64 < 256
+next-below rank b e = omega arith
 
--- a rank inside is not below the base
-pub inside-base : (before rank : ℕ) → inWindow before rank ≡ true → baseOf before ≤ rank
-inside-base before rank w =
-    leb→le (baseOf before) rank (both-left (leb (baseOf before) rank) (leb rank (baseOf before + 63)) (subst T (sym w) tt))
+-- the rank of an index of subframe 1 or 3, from the table lent
+module _ {ranks : List ℕ} (t : ranks ≡ tabulate rankOf 256) (a : ℕ) where
+  rank-read : getD ranks (a % 256) 0 ≡ firstOf a
+  rank-read = rw t (getD-tabulate rankOf 0 256 (a % 256) (byte-part a))
 
--- delays of a and b twelfths in subframes n and n + 1, which have the ranks r and s
-module _ (n a b : ℕ) (rest : Coded) {r : ℕ} (first : r ≡ rankWith a) where
-  pub first-unlisted : 255 < r → NotListed n ≡ pairOf n a b rest
+  pub rank-read-below : getD ranks (a % 256) 0 < 256
+  rank-read-below = rw rank-read (rank-below (a % 256) (byte-part a))
+
+  -- the two delays of a pair, from both tables and the base
+  pub pair-heard : {table : List ℕ} {low : ℕ} (b : ℕ) → table ≡ delays → low ≡ baseOf (getD ranks (a % 256) 0)
+      → getD table (getD ranks (a % 256) 0) 0 ∷ getD table (low + b % 64) 0 ∷ [] ≡ heardPair a b
+  unfolding twelfthsOf
+  pair-heard b d e = rw (e, d, rank-read)
+
+-- the delays of two pairs are those of the four subframes
+pub four-heard : {p q : List ℕ} (codes : List ℕ) → p ≡ heardPair (getD codes 0 0) (getD codes 1 0) → q ≡ heardPair (getD codes 2 0) (getD codes 3 0)
+    → getD p 0 0 ∷ getD p 1 0 ∷ getD q 0 0 ∷ getD q 1 0 ∷ [] ≡ heardOf codes
+unfolding heardOf
+four-heard codes e f = rw (e, f)
+
+-- delays of a and b twelfths, which have the ranks r and s
+module _ (a b : ℕ) {r : ℕ} (first : r ≡ rankWith a) where
+  pub first-unlisted : 255 < r → FirstNotListed ≡ codedPair a b
+  unfolding codedPair
   first-unlisted h = let u : ltb (rankWith a) 256 ≡ false = le-ltb (rankWith a) 256 (omega arith) in rw u
 
-  module _ (listed-first : r ≤ 255) {s : ℕ} (second : s ≡ rankWith b) where
-    pub second-unlisted : 255 < s → NotListed (n + 1) ≡ pairOf n a b rest
+  module _ (first-listed : r ≤ 255) {s : ℕ} (second : s ≡ rankWith b) where
+    pub second-unlisted : 255 < s → SecondNotListed ≡ codedPair a b
+    unfolding codedPair
     second-unlisted h =
         let l : ltb (rankWith a) 256 ≡ true = lt-ltb (rankWith a) 256 (omega arith) in
         let u : ltb (rankWith b) 256 ≡ false = le-ltb (rankWith b) 256 (omega arith) in
         rw (l, u)
 
-    module _ (listed-second : s ≤ 255) where
-      decided : (w : Bool) → inWindow r s ≡ w → unless w (OutsideWindow (n + 1)) rest ≡ pairOf n a b rest
+    module _ (second-listed : s ≤ 255) {low : ℕ} (lowest : low ≡ baseOf r) where
+      -- where both are listed, the window decides
+      decided : (w : Bool) → inWindow r s ≡ w → cond w (Inside r (s - low)) SecondOutside ≡ codedPair a b
+      unfolding codedPair
       decided w e =
           let l : ltb (rankWith a) 256 ≡ true = lt-ltb (rankWith a) 256 (omega arith) in
           let m : ltb (rankWith b) 256 ≡ true = lt-ltb (rankWith b) 256 (omega arith) in
           let i : inWindow (rankWith a) (rankWith b) ≡ w = (rw (first, second) at e) in
-          rw (l, m, i)
+          rw (l, m, i, lowest, first, second)
 
-      pub outside : inWindow r s ≡ false → OutsideWindow (n + 1) ≡ pairOf n a b rest
-      outside e = decided false e
+      pub below-window : s < low → SecondOutside ≡ codedPair a b
+      below-window h = decided false (let l : leb (baseOf r) s ≡ false = lt-leb (baseOf r) s (omega arith) in rw l)
 
-      pub gone-past : inWindow r s ≡ true → rest ≡ pairOf n a b rest
-      gone-past e = decided true e
+      pub above-window : low ≤ s → 63 < s - low → SecondOutside ≡ codedPair a b
+      above-window g h =
+          decided false
+          (let l : leb (baseOf r) s ≡ true = le-leb (baseOf r) s (omega arith) in
+          let m : leb s (baseOf r + 63) ≡ false = lt-leb s (baseOf r + 63) (omega arith) in
+          rw (l, m))
 
--- the two codes of a pair, from the table of bytes and the base
-pub pair-codes : {bytes′ : List ℕ} {low r s : ℕ} (a b : ℕ) → bytes′ ≡ bytes → r ≡ rankWith a → s ≡ rankWith b → low ≡ baseOf r
-    → (getD bytes′ r 0 ≡ byteOf (rankWith a)) × (s - low ≡ rankWith b - baseOf (rankWith a))
-unfolding byteOf
-pair-codes a b t f g e = (rw (t, f), rw (e, f, g))
+      pub inside-window : low ≤ s → s - low ≤ 63 → Inside r (s - low) ≡ codedPair a b
+      inside-window g h =
+          decided true
+          (let l : leb (baseOf r) s ≡ true = le-leb (baseOf r) s (omega arith) in
+          let m : leb s (baseOf r + 63) ≡ true = le-leb s (baseOf r + 63) (omega arith) in
+          rw (l, m))
 
-pub four-codes : {k l m n k′ l′ m′ n′ : ℕ} → (k ≡ k′) × (l ≡ l′) → (m ≡ m′) × (n ≡ n′) → Codes k l m n ≡ Codes k′ l′ m′ n′
-four-codes p q = rw (p .0, p .1, q .0, q .1)
+-- a pair's answer as that of subframes n and n + 1, with what comes after it
+abbrev pub carried : ℕ → Pair → (ℕ → ℕ → Coded) → Coded
+carried n FirstNotListed rest = NotListed n
+carried n SecondNotListed rest = NotListed (n + 1)
+carried n SecondOutside rest = OutsideWindow (n + 1)
+carried n (Inside rank step) rest = rest rank step
 
--- the two delays of a pair, from the table of ranks and the window
-pub pair-heard : {ranks : List ℕ} {s w x : ℕ} (a b : ℕ) → ranks ≡ tabulate rankOf 256 → s ≡ afterOf (getD ranks (a % 256) 0) (b % 64)
-    → w ≡ twelfthsOf (getD ranks (a % 256) 0) → x ≡ twelfthsOf s → (w ≡ twelfthsOf (firstOf a)) × (x ≡ twelfthsOf (nextOf a b))
-pair-heard {ranks} {s} a b t e f g =
-    let h : getD ranks (a % 256) 0 ≡ firstOf a = rw t (getD-tabulate rankOf 0 256 (a % 256) (omega arith)) in
-    let n : s ≡ nextOf a b = omega arith in
-    (f ∙ ap twelfthsOf h, g ∙ ap twelfthsOf n)
+carried-tests : (n r s : ℕ) (rest : ℕ → ℕ → Coded) (p q w : Bool)
+    → carried n (cond p (cond q (cond w (Inside r s) SecondOutside) SecondNotListed) FirstNotListed) rest
+    ≡ unless p (NotListed n) (unless q (NotListed (n + 1)) (unless w (OutsideWindow (n + 1)) (rest r s)))
+carried-tests n r s rest false q w = refl
+carried-tests n r s rest true false w = refl
+carried-tests n r s rest true true false = refl
+carried-tests n r s rest true true true = refl
 
-pub four-heard : {k l m n : ℕ} (codes : List ℕ)
-    → (k ≡ twelfthsOf (firstOf (getD codes 0 0))) × (l ≡ twelfthsOf (nextOf (getD codes 0 0) (getD codes 1 0)))
-    → (m ≡ twelfthsOf (firstOf (getD codes 2 0))) × (n ≡ twelfthsOf (nextOf (getD codes 2 0) (getD codes 3 0)))
-    → k ∷ l ∷ m ∷ n ∷ [] ≡ heardOf codes
-unfolding heardOf
-four-heard codes p q = rw (p .0, p .1, q .0, q .1)
+pair-carried : (n a b : ℕ) (rest : ℕ → ℕ → Coded) → carried n (codedPair a b) rest ≡ pairOf n a b (rest (rankWith a) (rankWith b - baseOf (rankWith a)))
+unfolding codedPair
+pair-carried n a b rest = carried-tests n (rankWith a) (rankWith b - baseOf (rankWith a)) rest (listed a) (listed b) (inWindow (rankWith a) (rankWith b))
+
+-- the codes from the table of bytes
+module _ {table : List ℕ} (t : table ≡ bytes) where
+  pub byte-read-below : (rank : ℕ) → rank < 256 → getD table rank 0 < 256
+  unfolding byteOf
+  byte-read-below rank h = rw t (byte-below rank h)
+
+  pub four-codes : (r s u v : ℕ) → Codes (getD table r 0) s (getD table u 0) v ≡ bothInside r s u v
+  unfolding byteOf
+  four-codes r s u v = rw t
+
+-- what the first pair's answer makes of four delays, and what the second's does past it
+module _ (t : List ℕ) where
+  abbrev pub later : ℕ → ℕ → Coded
+  later r s = carried 3 (codedPair (getD t 2 0) (getD t 3 0)) (bothInside r s)
+
+  whole : carried 1 (codedPair (getD t 0 0) (getD t 1 0)) later ≡ codedOf t
+  unfolding codedOf
+  whole =
+      pair-carried 1 (getD t 0 0) (getD t 1 0) later
+      ∙ ap (pairOf 1 (getD t 0 0) (getD t 1 0))
+      (pair-carried 3 (getD t 2 0) (getD t 3 0) (bothInside (rankWith (getD t 0 0)) (rankWith (getD t 1 0) - baseOf (rankWith (getD t 0 0)))))
+
+  pub by-first : {p : Pair} → codedPair (getD t 0 0) (getD t 1 0) ≡ p → carried 1 p later ≡ codedOf t
+  by-first e = ap (λ (x : Pair). carried 1 x later) (sym e) ∙ whole
+
+  pub by-second : {r s : ℕ} {q : Pair} → codedPair (getD t 0 0) (getD t 1 0) ≡ Inside r s → codedPair (getD t 2 0) (getD t 3 0) ≡ q
+      → carried 3 q (bothInside r s) ≡ codedOf t
+  by-second {r} {s} e f = ap (λ (x : Pair). carried 3 x (bothInside r s)) (sym f) ∙ by-first e

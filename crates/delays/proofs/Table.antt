@@ -1,19 +1,18 @@
 -- The rules of the two lists, each a test that is computed over the whole list.
 -- Assumes nothing.
-use mathlib.Core.Path.{_≡_, _∙_, sym, refl, ap, subst}
-use mathlib.Core.Bool.{Bool}
-use mathlib.Core.List.{List}
+use mathlib.Core.Path.{_≡_, _∙_, sym, refl, ap}
+use mathlib.Core.Bool.{cond}
+use mathlib.Core.List.{List, [], _∷_}
 use Prim.Native.Nat.{ℕ, zero, suc, _+_, _-_, _*_, _/_, _<_, _≤_}
 use native.Mathlib.Omega.{arith}
 use native.Mathlib.Decide.{ℕ-discrete}
-use lib.Dec.{T, leb, eqb, eqb→eq, leb→le}
+use lib.Dec.{T, leb, ltb, eqb, eqb→eq, leb→le}
 use lib.ListN.{length, getD}
 use lib.Seq.{ext-getD}
-use Rattle.laws.specs.Table.{every}
-use Rattle.laws.specs.Place.{placeOf}
-use Rattle.laws.specs.Tabulate.{tabulate, tabulateFrom}
-use Rattle.laws.proofs.Table.{at}
-use Rattle.laws.proofs.Place.{place-entry}
+use Rattle.laws.specs.Table.{both, every}
+use Rattle.laws.specs.Tabulate.{tabulate}
+use Rattle.laws.proofs.Table.{at, both-left, both-right}
+use Rattle.laws.proofs.Place.{place-entry, place-back}
 use Rattle.laws.proofs.Tabulate.{length-tabulate, getD-tabulate}
 use Rattle.delays.specs.Table.{delays, bytes, twelfthsOf, stretched, byteOf, rankOf, rankWith}
 
@@ -37,13 +36,10 @@ twelfths-high rank h = leb→le (twelfthsOf rank) 1764 (at 0 (λ k x. leb x 1764
 
 -- a delay is longer than the one a rank below
 twelfths-step : (rank : ℕ) → rank < 255 → twelfthsOf rank < twelfthsOf (suc rank)
-unfolding delays twelfthsOf
+unfolding delays twelfthsOf stretched
 twelfths-step rank h =
-    let s : suc (twelfthsOf rank) ≤ twelfthsOf (suc rank) + 2000 * (rank / 255) =
-    leb→le (suc (twelfthsOf rank)) (twelfthsOf (suc rank) + 2000 * (rank / 255))
-    (at 0 (λ k x. leb (suc x) (twelfthsOf (suc k) + 2000 * (k / 255))) delays tt rank (omega arith))
-    in
-    omega arith
+    rw (twelfths-stretched (suc rank) (omega arith))
+    (leb→le (suc (twelfthsOf rank)) (stretched (suc rank)) (at 0 (λ k x. leb (suc x) (stretched (suc k))) delays tt rank (omega arith)))
 
 -- twelfths rise with the rank
 pub twelfths-rise : (low high : ℕ) → low < high → high < 256 → twelfthsOf low < twelfthsOf high
@@ -54,44 +50,93 @@ twelfths-rise low (suc high) l h = here (ℕ-discrete low high) (λ k. twelfths-
     here (yes e) below = rw e (twelfths-step high (omega arith))
     here (no n) below = let b : twelfthsOf low < twelfthsOf high = below (omega arith) in omega (arith, twelfths-step high (omega arith))
 
--- each delay stands in the list once: the rank of a rank's twelfths is that rank
+-- the rank that the four stretches give for a delay in twelfths
+unfoldable pub candidateOf : ℕ → ℕ
+candidateOf delay =
+    cond (ltb delay 240) 0
+    (cond (ltb delay 312) ((delay - 240) / 4)
+    (cond (ltb delay 408) (18 + (delay - 312) / 3)
+    (cond (ltb delay 960) (50 + (delay - 408) / 4) (cond (ltb delay 1776) (188 + (delay - 960) / 12) 255))))
+
+-- it leads from each rank's twelfths back to that rank
+pub candidate-twelfths : (rank : ℕ) → rank < 256 → candidateOf (twelfthsOf rank) ≡ rank
+unfolding delays twelfthsOf candidateOf
+candidate-twelfths rank h = eqb→eq (candidateOf (twelfthsOf rank)) rank (at 0 (λ k x. eqb (candidateOf x) k) delays tt rank h)
+
+-- so each delay stands in the list once: the rank of a rank's twelfths is that rank
 pub rank-twelfths : (rank : ℕ) → rank < 256 → rankWith (twelfthsOf rank) ≡ rank
-unfolding delays twelfthsOf rankWith placeOf
-rank-twelfths rank h = eqb→eq (rankWith (twelfthsOf rank)) rank (at 0 (λ k x. eqb (rankWith x) k) delays tt rank h)
+unfolding twelfthsOf rankWith
+rank-twelfths rank h =
+    place-back candidateOf delays (λ k l. candidate-twelfths k (omega (arith, delays-long))) rank (omega (arith, delays-long))
 
 -- a listed delay is the twelfths of its rank
 pub twelfths-rank : (delay : ℕ) → rankWith delay < 256 → twelfthsOf (rankWith delay) ≡ delay
 unfolding twelfthsOf rankWith
 twelfths-rank delay h = place-entry delay delays (omega (arith, delays-long))
 
+-- the rank of each byte, in their order
+unfoldable pub ranks : List ℕ
+ranks =
+    112 ∷ 29 ∷ 23 ∷ 25 ∷ 218 ∷ 121 ∷ 114 ∷ 117 ∷ 113 ∷ 28 ∷ 22 ∷ 24 ∷ 219 ∷ 120 ∷ 115 ∷ 116 ∷
+    217 ∷ 31 ∷ 111 ∷ 27 ∷ 222 ∷ 123 ∷ 220 ∷ 118 ∷ 216 ∷ 30 ∷ 110 ∷ 26 ∷ 223 ∷ 122 ∷ 221 ∷ 119 ∷
+    169 ∷ 176 ∷ 172 ∷ 177 ∷ 189 ∷ 181 ∷ 188 ∷ 179 ∷ 170 ∷ 175 ∷ 173 ∷ 178 ∷ 187 ∷ 182 ∷ 186 ∷ 180 ∷
+    59 ∷ 62 ∷ 60 ∷ 63 ∷ 69 ∷ 184 ∷ 68 ∷ 66 ∷ 171 ∷ 174 ∷ 61 ∷ 64 ∷ 185 ∷ 183 ∷ 67 ∷ 65 ∷
+    196 ∷ 197 ∷ 0 ∷ 231 ∷ 194 ∷ 195 ∷ 1 ∷ 2 ∷ 191 ∷ 190 ∷ 70 ∷ 71 ∷ 192 ∷ 193 ∷ 72 ∷ 73 ∷
+    80 ∷ 81 ∷ 241 ∷ 242 ∷ 78 ∷ 79 ∷ 4 ∷ 3 ∷ 6 ∷ 5 ∷ 236 ∷ 235 ∷ 76 ∷ 77 ∷ 75 ∷ 74 ∷
+    138 ∷ 40 ∷ 238 ∷ 237 ∷ 139 ∷ 41 ∷ 243 ∷ 244 ∷ 146 ∷ 46 ∷ 150 ∷ 50 ∷ 144 ∷ 44 ∷ 151 ∷ 152 ∷
+    141 ∷ 43 ∷ 143 ∷ 142 ∷ 140 ∷ 42 ∷ 240 ∷ 239 ∷ 147 ∷ 47 ∷ 148 ∷ 48 ∷ 145 ∷ 45 ∷ 149 ∷ 49 ∷
+    105 ∷ 210 ∷ 108 ∷ 214 ∷ 15 ∷ 97 ∷ 20 ∷ 207 ∷ 102 ∷ 100 ∷ 107 ∷ 213 ∷ 16 ∷ 99 ∷ 19 ∷ 209 ∷
+    104 ∷ 211 ∷ 109 ∷ 215 ∷ 14 ∷ 96 ∷ 21 ∷ 206 ∷ 103 ∷ 101 ∷ 106 ∷ 212 ∷ 17 ∷ 98 ∷ 18 ∷ 208 ∷
+    93 ∷ 205 ∷ 84 ∷ 199 ∷ 92 ∷ 204 ∷ 83 ∷ 198 ∷ 13 ∷ 94 ∷ 82 ∷ 247 ∷ 12 ∷ 95 ∷ 7 ∷ 255 ∷
+    88 ∷ 202 ∷ 86 ∷ 201 ∷ 90 ∷ 203 ∷ 85 ∷ 200 ∷ 10 ∷ 89 ∷ 9 ∷ 87 ∷ 11 ∷ 91 ∷ 8 ∷ 251 ∷
+    52 ∷ 51 ∷ 54 ∷ 53 ∷ 153 ∷ 154 ∷ 159 ∷ 157 ∷ 156 ∷ 155 ∷ 160 ∷ 158 ∷ 245 ∷ 246 ∷ 249 ∷ 248 ∷
+    58 ∷ 57 ∷ 55 ∷ 56 ∷ 168 ∷ 166 ∷ 161 ∷ 164 ∷ 167 ∷ 165 ∷ 162 ∷ 163 ∷ 254 ∷ 253 ∷ 250 ∷ 252 ∷
+    135 ∷ 37 ∷ 133 ∷ 35 ∷ 134 ∷ 36 ∷ 132 ∷ 34 ∷ 229 ∷ 227 ∷ 129 ∷ 126 ∷ 131 ∷ 128 ∷ 130 ∷ 127 ∷
+    137 ∷ 38 ∷ 232 ∷ 32 ∷ 136 ∷ 39 ∷ 233 ∷ 33 ∷ 234 ∷ 224 ∷ 225 ∷ 124 ∷ 230 ∷ 226 ∷ 228 ∷ 125 ∷ []
+
+-- each byte has its rank in that list: one of the 256, with that byte
+ranks-test : T (every (λ b r. both (leb (suc r) 256) (eqb (byteOf r) b)) 0 ranks)
+unfolding bytes byteOf ranks
+ranks-test = tt
+
+ranks-long : length ranks ≡ 256
+unfolding ranks
+ranks-long = refl
+
+module _ (byte : ℕ) (h : byte < 256) where
+  ranks-at : T (both (leb (suc (getD ranks byte 0)) 256) (eqb (byteOf (getD ranks byte 0)) byte))
+  ranks-at = at 0 (λ b r. both (leb (suc r) 256) (eqb (byteOf r) b)) ranks ranks-test byte (omega (arith, ranks-long))
+
+  ranks-below : getD ranks byte 0 < 256
+  ranks-below = leb→le (suc (getD ranks byte 0)) 256 (both-left (leb (suc (getD ranks byte 0)) 256) (eqb (byteOf (getD ranks byte 0)) byte) ranks-at)
+
+  ranks-byte : byteOf (getD ranks byte 0) ≡ byte
+  ranks-byte = eqb→eq (byteOf (getD ranks byte 0)) byte (both-right (leb (suc (getD ranks byte 0)) 256) (eqb (byteOf (getD ranks byte 0)) byte) ranks-at)
+
 -- each byte stands in the table once: the rank of a rank's byte is that rank
 pub rank-byte : (rank : ℕ) → rank < 256 → rankOf (byteOf rank) ≡ rank
-unfolding bytes byteOf rankOf placeOf
-rank-byte rank h = eqb→eq (rankOf (byteOf rank)) rank (at 0 (λ k x. eqb (rankOf x) k) bytes tt rank h)
+unfolding bytes byteOf rankOf ranks
+rank-byte rank h =
+    place-back (λ (b : ℕ). getD ranks b 0) bytes
+    (λ k l. eqb→eq (getD ranks (byteOf k) 0) k (at 0 (λ i x. eqb (getD ranks x 0) i) bytes tt k l)) rank h
 
 pub byte-below : (rank : ℕ) → rank < 256 → byteOf rank < 256
 unfolding bytes byteOf
 byte-below rank h = leb→le (suc (byteOf rank)) 256 (at 0 (λ k x. leb (suc x) 256) bytes tt rank h)
 
--- a test of every byte, computed over the ranks of 0 to 255
-byte-test : (test : ℕ → ℕ → Bool) → T (every test 0 (tabulate rankOf 256)) → (byte : ℕ) → byte < 256 → T (test byte (rankOf byte))
-byte-test test t byte h =
-    subst (λ (m : ℕ). T (test byte m)) (getD-tabulate rankOf 0 256 byte h)
-    (at 0 test (tabulate rankOf 256) t byte (omega (arith, length-tabulate rankOf 256)))
+-- so the list has the rank of each byte
+ranks-rank : (byte : ℕ) → byte < 256 → getD ranks byte 0 ≡ rankOf byte
+ranks-rank byte h = sym (rank-byte (getD ranks byte 0) (ranks-below byte h)) ∙ ap rankOf (ranks-byte byte h)
 
 -- each byte stands in the table: its rank is one of the 256, and has that byte
 pub rank-below : (byte : ℕ) → byte < 256 → rankOf byte < 256
-unfolding bytes rankOf placeOf tabulateFrom
-rank-below byte h = leb→le (suc (rankOf byte)) 256 (byte-test (λ b r. leb (suc r) 256) tt byte h)
+rank-below byte h = rw (sym (ranks-rank byte h)) (ranks-below byte h)
 
 pub byte-rank : (byte : ℕ) → byte < 256 → byteOf (rankOf byte) ≡ byte
-unfolding bytes byteOf rankOf placeOf tabulateFrom
-byte-rank byte h = eqb→eq (byteOf (rankOf byte)) byte (byte-test (λ b r. eqb (byteOf r) b) tt byte h)
+byte-rank byte h = ap byteOf (sym (ranks-rank byte h)) ∙ ranks-byte byte h
 
--- a list of 256 numbers each of which is the rank of its place, as a byte, is the inverse table
-pub inverse : (xs : List ℕ) → length xs ≡ 256 → T (every (λ b r. eqb r (rankOf b)) 0 xs) → xs ≡ tabulate rankOf 256
-inverse xs e t =
-    ext-getD 0 xs (tabulate rankOf 256) (e ∙ sym (length-tabulate rankOf 256))
-    (λ b h.
-    eqb→eq (getD xs b 0) (rankOf b) (at 0 (λ k r. eqb r (rankOf k)) xs t b h)
-    ∙ sym (getD-tabulate rankOf 0 256 b (omega (arith, e))))
+-- the list is the inverse table
+pub inverse : ranks ≡ tabulate rankOf 256
+inverse =
+    ext-getD 0 ranks (tabulate rankOf 256) (ranks-long ∙ sym (length-tabulate rankOf 256))
+    (λ b h. ranks-rank b (omega (arith, ranks-long)) ∙ sym (getD-tabulate rankOf 0 256 b (omega (arith, ranks-long))))

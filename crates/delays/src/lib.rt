@@ -2,9 +2,8 @@
 // and the window of 64 ranks in which subframes 2 and 4 code theirs (3.5.5).
 // A table is taken once in a call, by one of the three functions that answer a table, and lent on.
 ghost use mathlib.Core.Path.{_≡_};
-ghost use Prim.Native.Nat.{ℕ, _<_};
-ghost use Rattle.delays.specs.Table.{delays, bytes, twelfthsOf, byteOf, rankOf, rankWith};
-ghost use Rattle.delays.specs.Codes.{baseOf, afterOf, inWindow, heardOf, codedOf};
+ghost use Rattle.delays.specs.Table.{delays, bytes, rankOf, rankWith};
+ghost use Rattle.delays.specs.Codes.{baseOf, heardPair, heardOf, codedPair, bothInside, codedOf};
 ghost use Rattle.laws.specs.Tabulate.{tabulate};
 
 mod tables;
@@ -30,40 +29,8 @@ fn ranks_by_byte() -> [u8; 256]
     tables::RANKS
 }
 
-// The twelfths of a rank, from the table lent.
-fn twelfths_in(table: &[u16; 256], rank: u8) -> u16
-    requires { ⌜ now table ≡ delays ⌝ }
-    ensures { λ r. ⌜ r ≡ twelfthsOf rank ⌝ }
-{
-    table[rank as usize]
-}
-
-// The twelfths of a rank.
-pub fn twelfths(rank: u8) -> u16
-    ensures { λ r. ⌜ r ≡ twelfthsOf rank ⌝ }
-{
-    let table = twelfths_by_rank();
-    twelfths_in(&table, rank)
-}
-
-// The printed byte of a rank.
-pub fn byte_of(rank: u8) -> u8
-    ensures { λ r. ⌜ r ≡ byteOf rank ⌝ }
-{
-    let bytes = bytes_by_rank();
-    bytes[rank as usize]
-}
-
-// The rank of a printed byte.
-pub fn rank_of(byte: u8) -> u8
-    ensures { λ r. ⌜ r ≡ rankOf byte ⌝ }
-{
-    let ranks = ranks_by_byte();
-    ranks[byte as usize]
-}
-
 // The lowest rank of the window after a rank.
-pub fn base(rank: u8) -> u8
+fn base(rank: u16) -> u16
     ensures { λ r. ⌜ r ≡ baseOf rank ⌝ }
 {
     if rank < 31 {
@@ -75,22 +42,16 @@ pub fn base(rank: u8) -> u8
     rank - 31
 }
 
-// The rank that a six-bit code means after a rank.
-pub fn after(rank: u8, step: u8) -> u8
-    ensures { λ r. ⌜ r ≡ afterOf rank step ⌝ }
+// The two delays in twelfths that the indices of subframes 1 and 2, or 3 and 4, mean.
+fn heard_pair(ranks: &[u8; 256], table: &[u16; 256], first: u16, second: u16) -> [u16; 2]
+    requires { ⌜ now ranks ≡ tabulate rankOf 256 ⌝ }
+    requires { ⌜ now table ≡ delays ⌝ }
+    ensures { λ r. ⌜ r ≡ heardPair first second ⌝ }
 {
-    base(rank) + step % 64
-}
-
-// A rank is in the window after another.
-fn in_window(before: u8, rank: u8) -> bool
-    ensures { λ r. ⌜ r ≡ inWindow before rank ⌝ }
-{
-    let low = base(before);
-    if rank < low {
-        return false;
-    }
-    rank <= low + 63
+    let rank = ranks[(first % 256) as usize];
+    let low = base(rank as u16);
+    let next = low + second % 64;
+    [table[rank as usize], table[next as usize]]
 }
 
 // The four delays in twelfths that a record's four indices mean.
@@ -99,15 +60,9 @@ pub fn heard(codes: [u16; 4]) -> [u16; 4]
 {
     let ranks = ranks_by_byte();
     let table = twelfths_by_rank();
-    let first = ranks[(codes[0] % 256) as usize];
-    let second = after(first, (codes[1] % 64) as u8);
-    let third = ranks[(codes[2] % 256) as usize];
-    let fourth = after(third, (codes[3] % 64) as u8);
-    let a = twelfths_in(&table, first);
-    let b = twelfths_in(&table, second);
-    let c = twelfths_in(&table, third);
-    let d = twelfths_in(&table, fourth);
-    [a, b, c, d]
+    let early = heard_pair(&ranks, &table, codes[0], codes[1]);
+    let late = heard_pair(&ranks, &table, codes[2], codes[3]);
+    [early[0], early[1], late[0], late[1]]
 }
 
 // The codes of four delays, or the first refusal, with its subframe.
@@ -117,81 +72,94 @@ pub enum Coded {
     OutsideWindow(u16),
 }
 
-// The only rank that can have so many twelfths, by the four stretches.
-fn candidate(delay: u32) -> u8
-    ensures { λ r. ⌜ ((rank : ℕ) → rank < 256 → twelfthsOf rank ≡ delay → r ≡ rank) ⌝ }
-{
-    if delay < 240 {
-        return 0;
-    }
-    if delay < 312 {
-        return ((delay - 240) / 4) as u8;
-    }
-    if delay < 408 {
-        return (18 + (delay - 312) / 3) as u8;
-    }
-    if delay < 960 {
-        return (50 + (delay - 408) / 4) as u8;
-    }
-    if delay < 1776 {
-        return (188 + (delay - 960) / 12) as u8;
-    }
-    255
+// The delays of subframes 1 and 2, or 3 and 4: the rank of the first and the six-bit code of the second, or what the refusal is.
+enum Pair {
+    Inside(u8, u8),
+    FirstNotListed,
+    SecondNotListed,
+    SecondOutside,
 }
 
-// The rank of a delay in twelfths, or 256 if the list has no such delay.
-fn rank_with(table: &[u16; 256], delay: u32) -> u16
-    requires { ⌜ now table ≡ delays ⌝ }
+// The rank of a delay in twelfths, by the four stretches, or 256 if the list has no such delay.
+fn rank_with(delay: u32) -> u16
     ensures { λ r. ⌜ r ≡ rankWith delay ⌝ }
 {
-    let rank = candidate(delay);
-    let here = twelfths_in(table, rank);
-    if here as u32 == delay {
-        return rank as u16;
+    if delay < 240 {
+        return 256;
+    }
+    if delay < 312 {
+        if delay % 4 == 0 {
+            return ((delay - 240) / 4) as u16;
+        }
+        return 256;
+    }
+    if delay < 408 {
+        if delay % 3 == 0 {
+            return (18 + (delay - 312) / 3) as u16;
+        }
+        return 256;
+    }
+    if delay < 960 {
+        if delay % 4 == 0 {
+            return (50 + (delay - 408) / 4) as u16;
+        }
+        return 256;
+    }
+    if delay < 1776 {
+        if delay % 12 == 0 {
+            return (188 + (delay - 960) / 12) as u16;
+        }
+        return 256;
     }
     256
+}
+
+// Two delays in twelfths, of subframes 1 and 2 or of 3 and 4: whether each is in the list, then whether the second is in the window.
+fn coded_pair(first: u32, second: u32) -> Pair
+    ensures { λ r. ⌜ r ≡ codedPair first second ⌝ }
+{
+    let before = rank_with(first);
+    if 255 < before {
+        return Pair::FirstNotListed;
+    }
+    let rank = rank_with(second);
+    if 255 < rank {
+        return Pair::SecondNotListed;
+    }
+    let low = base(before);
+    if rank < low {
+        return Pair::SecondOutside;
+    }
+    let step = rank - low;
+    if 63 < step {
+        return Pair::SecondOutside;
+    }
+    Pair::Inside(before as u8, step as u8)
+}
+
+// The codes where both pairs are inside their windows: the printed bytes of the first and third delay's ranks, and the second and fourth code.
+fn both_inside(first: u8, second: u8, third: u8, fourth: u8) -> Coded
+    ensures { λ r. ⌜ r ≡ bothInside first second third fourth ⌝ }
+{
+    let bytes = bytes_by_rank();
+    let a = bytes[first as usize];
+    let c = bytes[third as usize];
+    Coded::Codes(a as u16, second as u16, c as u16, fourth as u16)
 }
 
 // The codes of four delays in twelfths: subframe by subframe, first whether the delay is in the list, then whether it is in the window.
 pub fn codes(delays: [u32; 4]) -> Coded
     ensures { λ r. ⌜ r ≡ codedOf delays ⌝ }
 {
-    let table = twelfths_by_rank();
-    let first = rank_with(&table, delays[0]);
-    if 255 < first {
-        return Coded::NotListed(1);
+    match coded_pair(delays[0], delays[1]) {
+        Pair::FirstNotListed => Coded::NotListed(1),
+        Pair::SecondNotListed => Coded::NotListed(2),
+        Pair::SecondOutside => Coded::OutsideWindow(2),
+        Pair::Inside(a, b) => match coded_pair(delays[2], delays[3]) {
+            Pair::FirstNotListed => Coded::NotListed(3),
+            Pair::SecondNotListed => Coded::NotListed(4),
+            Pair::SecondOutside => Coded::OutsideWindow(4),
+            Pair::Inside(c, d) => both_inside(a, b, c, d),
+        },
     }
-    let second = rank_with(&table, delays[1]);
-    if 255 < second {
-        return Coded::NotListed(2);
-    }
-    let a = first as u8;
-    let b = second as u8;
-    if !in_window(a, b) {
-        return Coded::OutsideWindow(2);
-    }
-    let third = rank_with(&table, delays[2]);
-    if 255 < third {
-        return Coded::NotListed(3);
-    }
-    let fourth = rank_with(&table, delays[3]);
-    if 255 < fourth {
-        return Coded::NotListed(4);
-    }
-    let c = third as u8;
-    let d = fourth as u8;
-    if !in_window(c, d) {
-        return Coded::OutsideWindow(4);
-    }
-    let bytes = bytes_by_rank();
-    let printed = bytes[a as usize];
-    let step = b - base(a);
-    let later_printed = bytes[c as usize];
-    let later_step = d - base(c);
-    Coded::Codes(
-        printed as u16,
-        step as u16,
-        later_printed as u16,
-        later_step as u16,
-    )
 }

@@ -1,73 +1,81 @@
-// The delays by rank, by byte and by six-bit code, and four delays to codes.
+// The delays by byte and by six-bit code, and four delays to codes.
 use crate::line;
 use crate::sequence::Sequence;
 use delays::Coded;
+ghost use Prim.Native.Nat.{_≤_};
 
-// `delay R T B`: the twelfths and the byte of a rank.
-pub fn of_rank(n: u16) {
-    let rank = (n % 256) as u8;
-    let twelfths = delays::twelfths(rank);
-    let byte = delays::byte_of(rank);
+// `delay B T A`: the delay that a byte means in subframe 1, and the byte that it has as four delays; or `delay B T refused N S`.
+pub fn of_byte(n: u16) {
+    let twelfths = first(n);
     let mut out = line::blank();
     let at = line::start(&mut out, b"delay");
-    let second = line::number(&mut out, at, rank as u64);
-    let third = line::number(&mut out, second, twelfths as u64);
-    let last = line::number(&mut out, third, byte as u64);
+    let next = line::number(&mut out, at, n as u64);
+    let given = line::number(&mut out, next, twelfths as u64);
+    let last = byte(&mut out, given, delays::codes([twelfths; 4]));
     line::end(&mut out, last);
 }
 
-// `byte B R`: the rank of a byte.
-pub fn of_byte(n: u16) {
-    let byte = (n % 256) as u8;
-    let rank = delays::rank_of(byte);
-    let mut out = line::blank();
-    let at = line::start(&mut out, b"byte");
-    let next = line::number(&mut out, at, byte as u64);
-    let last = line::number(&mut out, next, rank as u64);
-    line::end(&mut out, last);
+// The first code, or the refusal.
+fn byte(out: &mut [u8; 512], at: usize, answer: Coded) -> usize {
+    match answer {
+        Coded::Codes(a, b, c, d) => line::number(out, at, a as u64),
+        Coded::NotListed(subframe) => line::refused(out, at, 4, subframe as u64),
+        Coded::OutsideWindow(subframe) => line::refused(out, at, 5, subframe as u64),
+    }
 }
 
-// `after R T0 .. T63`: the delays that the six-bit codes mean after a rank.
+// `after B T0 .. T63`: the delays that the six-bit codes mean in subframe 2 after a byte.
 pub fn after(n: u16) {
-    let rank = (n % 256) as u8;
     let mut out = line::blank();
     let at = line::start(&mut out, b"after");
-    let next = line::number(&mut out, at, rank as u64);
-    let last = window(&mut out, next, rank);
+    let next = line::number(&mut out, at, n as u64);
+    let last = window(&mut out, next, n);
     line::end(&mut out, last);
 }
 
 // The 64 delays.
-fn window(out: &mut [u8; 512], start: usize, rank: u8) -> usize {
+fn window(out: &mut [u8; 512], start: usize, byte: u16) -> usize {
     let mut at = start;
-    let mut step = 0;
-    while step < 64 {
-        let twelfths = delays::twelfths(delays::after(rank, step));
-        at = line::number(out, at, twelfths as u64);
-        step += 1;
+    let mut code = 0;
+    while code < 64 {
+        at = line::number(out, at, second(byte, code) as u64);
+        code += 1;
     }
     at
 }
 
-// A delay of a case, the rank that it was made of, and the sequence after it.
+// The delay that a byte means in subframe 1.
+fn first(byte: u16) -> u32
+    ensures { λ r. ⌜ 240 ≤ r ⌝ }
+    ensures { λ r. ⌜ r ≤ 1764 ⌝ }
+{
+    let meant = delays::heard([byte, 0, 0, 0]);
+    meant[0] as u32
+}
+
+// The delay that a six-bit code means in subframe 2 after a byte.
+fn second(byte: u16, code: u16) -> u32
+    ensures { λ r. ⌜ 240 ≤ r ⌝ }
+    ensures { λ r. ⌜ r ≤ 1764 ⌝ }
+{
+    let meant = delays::heard([byte, code, 0, 0]);
+    meant[1] as u32
+}
+
+// A delay of a case, the byte of the subframe that it is in or comes after, and the sequence after it.
 struct Made {
-    rank: u8,
+    byte: u16,
     twelfths: u32,
     sequence: Sequence,
 }
 
 // `four C D1 D2 D3 D4 codes A1 A2 A3 A4` or `four C D1 D2 D3 D4 refused N S`: four delays to codes.
 pub fn four(n: u16, sequence: Sequence) -> Sequence {
-    let first = anywhere(sequence);
-    let second = about(first);
-    let third = anywhere(second.sequence);
-    let fourth = about(third);
-    let made = [
-        first.twelfths,
-        second.twelfths,
-        third.twelfths,
-        fourth.twelfths,
-    ];
+    let a = anywhere(sequence);
+    let b = about(a);
+    let c = anywhere(b.sequence);
+    let d = about(c);
+    let made = [a.twelfths, b.twelfths, c.twelfths, d.twelfths];
     let mut out = line::blank();
     let at = line::start(&mut out, b"four");
     let next = line::number(&mut out, at, n as u64);
@@ -81,7 +89,7 @@ pub fn four(n: u16, sequence: Sequence) -> Sequence {
     );
     let last = coded(&mut out, given, delays::codes(made));
     line::end(&mut out, last);
-    fourth.sequence
+    d.sequence
 }
 
 // The codes, or the refusal.
@@ -96,64 +104,78 @@ fn coded(out: &mut [u8; 512], at: usize, answer: Coded) -> usize {
     }
 }
 
-// A delay of any rank, for subframe 1 or 3.
+// The delay of any byte, for subframe 1 or 3.
 fn anywhere(sequence: Sequence) -> Made {
     let a = sequence.next();
-    let rank = (a.x % 256) as u8;
-    displaced(rank, a.sequence)
+    let byte = a.x % 256;
+    displaced(byte, first(byte), a.sequence)
 }
 
-// A delay in the window after the one before, or up to three ranks outside it, for subframe 2 or 4.
+// A delay for subframe 2 or 4, after the one before.
 fn about(before: Made) -> Made {
     let sequence = before.sequence;
     let a = sequence.next();
-    let low = lowest(before.rank);
-    let rank = held(low as u16 + a.x % 70);
-    displaced(rank, a.sequence)
+    let twelfths = chosen(before.byte, a.x % 8, a.x / 8);
+    displaced(before.byte, twelfths, a.sequence)
 }
 
-// A rank less 31, held between 0 and 192.
-fn lowest(rank: u8) -> u8 {
-    if rank < 31 {
-        return 0;
+// After a byte, by the kind: the delay of a six-bit code, that of another byte, or one at an end of the window or outside it.
+fn chosen(byte: u16, kind: u16, x: u16) -> u32
+    ensures { λ r. ⌜ 228 ≤ r ⌝ }
+    ensures { λ r. ⌜ r ≤ 1776 ⌝ }
+{
+    if kind < 5 {
+        return second(byte, x % 64);
     }
-    if 223 < rank {
-        return 192;
+    if kind == 5 {
+        return first(x % 256);
     }
-    rank - 31
+    let far = outward(x % 6);
+    if kind == 6 {
+        return second(byte, 0) - far;
+    }
+    second(byte, 63) + far
 }
 
-// A number less 3, held between 0 and 255.
-fn held(n: u16) -> u8 {
-    if n < 3 {
-        return 0;
+// How many twelfths beyond a window's end.
+fn outward(which: u16) -> u32
+    ensures { λ r. ⌜ r ≤ 12 ⌝ }
+{
+    match which {
+        0 => 0,
+        1 => 1,
+        2 => 3,
+        3 => 4,
+        4 => 8,
+        _ => 12,
     }
-    if 258 < n {
-        return 255;
-    }
-    (n - 3) as u8
 }
 
-// The delay of a rank, in one case of twelve a twelfth more or less.
-fn displaced(rank: u8, sequence: Sequence) -> Made {
+// A delay, in one case of twelve a twelfth more or less.
+fn displaced(byte: u16, delay: u32, sequence: Sequence) -> Made
+    requires { ⌜ 228 ≤ delay ⌝ }
+    requires { ⌜ delay ≤ 1776 ⌝ }
+{
     let b = sequence.next();
-    let twelfths = shifted(rank, b.x % 24);
+    let twelfths = shifted(delay, b.x % 24);
     let after = b.sequence;
     Made {
-        rank,
+        byte,
         twelfths,
         sequence: after,
     }
 }
 
-// The twelfths of a rank, one more where the other number is 0, one less where it is 1.
-fn shifted(rank: u8, which: u16) -> u32 {
-    let twelfths = delays::twelfths(rank) as u32;
+// A delay, one more where the other number is 0, one less where it is 1.
+fn shifted(delay: u32, which: u16) -> u32
+    requires { ⌜ 228 ≤ delay ⌝ }
+    requires { ⌜ delay ≤ 1776 ⌝ }
+{
     if which == 0 {
-        return twelfths + 1;
+        return delay + 1;
     }
     if which == 1 {
-        return twelfths - 1;
+        return delay - 1;
     }
-    twelfths
+    delay
 }

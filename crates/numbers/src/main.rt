@@ -16,7 +16,6 @@ use sequence::Sequence;
 enum Part {
     Gain(Table),
     Delay,
-    Byte,
     After,
     Code,
     Draw,
@@ -28,7 +27,6 @@ fn main() {
     lines(Part::Gain(Table::Cg), 33);
     lines(Part::Gain(Table::Pg), 33);
     lines(Part::Delay, 256);
-    lines(Part::Byte, 256);
     lines(Part::After, 256);
     lines(Part::Code, 513);
     nearest::lines(Table::Cg);
@@ -57,10 +55,6 @@ fn numbered(part: Part, n: u16, sequence: Sequence) -> Sequence {
             sequence
         }
         Part::Delay => {
-            delay::of_rank(n);
-            sequence
-        }
-        Part::Byte => {
             delay::of_byte(n);
             sequence
         }
