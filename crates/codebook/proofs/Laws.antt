@@ -1,5 +1,5 @@
 -- What the definitions of this crate come to, for callers: each code has sixty elements, each -1, 0 or 1, and overlaps its neighbour;
--- the wrapped sum; the positions; the first draws.
+-- the wrapped sum; the positions.
 -- Assumes nothing.
 use mathlib.Core.Path.{_≡_, _∙_, sym, refl, ap}
 use mathlib.Core.Bool.{Bool, true, false, cond}
@@ -124,12 +124,3 @@ first-range g = let r = position-range (g .first) in moved-range (positionOf (g 
 pub second-range : (g : Generator) → (1 ≤ drawOf g .generator .second) × (drawOf g .generator .second ≤ 5)
 unfolding drawOf
 second-range g = let r = position-range (g .second) in moved-range (positionOf (g .second)) (r .0) (r .1)
-
--- position 7 counts as 2, and is 1 after a draw; 0 counts as the fifth
-pub seven-and-none : (positionOf 7 ≡ 2) × ((movedOf (positionOf 7) ≡ 1) × (positionOf 0 ≡ 5))
-seven-and-none = (refl, (refl, refl))
-
--- worked number 1: the first four draws
-pub first-draws : draws 4 freshGenerator ≡ pos 8472 ∷ negsuc 31376 ∷ negsuc 26171 ∷ pos 25681 ∷ []
-unfolding freshGenerator drawOf wrapped
-first-draws = refl

@@ -2,5 +2,4 @@ pub mod Table
 pub mod Search
 pub mod Pairs
 pub mod Laws
-pub mod Worked
 pub mod Determined

@@ -1,5 +1,4 @@
 pub mod Laws
-pub mod Worked
 pub mod Apart
 pub mod Down
 pub mod Determined

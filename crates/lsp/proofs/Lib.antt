@@ -2,5 +2,4 @@ pub mod Columns
 pub mod Falls
 pub mod Weights
 pub mod Laws
-pub mod Worked
 pub mod Determined
