@@ -8,7 +8,7 @@ use Rattle.promises.specs.Boundary.{PairsHoldRecord, ReadTells, WriteTel
 use Rattle.promises.specs.Values.{NearestEntry, GainsComeBack, CgMirrored, DelaysRise, EachByteOnce, DelaysComeBack, FixedWindows, GainsHeard, DelaysHeard, Averaged, FirstAveraged, StateHolds, MarkIsLowest, Ternary, CodesOverlap, DrawsWrap, DrawsAtPositions}
 use Rattle.promises.specs.Rule.{LowestFirst, RefusedExactly, SoundExactly}
 use Rattle.promises.specs.Made.{MadeIsSound, SoundIsMade, NoTwo}
-use Rattle.promises.specs.Parts.{VoiceBlocksStand, FramesAreAll, EndCounts, RepairsCounted, BreaksCounted, RefusedHasNone, EmptyRefused}
+use Rattle.promises.specs.Parts.{VoiceBlocksStand, FramesAreAll, FramesAreLong, FramesFit, EndCounts, RepairsCounted, BreaksCounted, RefusedHasNone, EmptyRefused}
 use Rattle.promises.specs.Running.{StateRunsOn, NothingBeyond, PassHears, SoFarAlone}
 use Rattle.promises.specs.Worked.{AllTwelve}
 
@@ -84,6 +84,8 @@ pub record DemandTwo : Type 0 where
   pub no-two : NoTwo
   pub voice-blocks-stand : VoiceBlocksStand
   pub frames-are-all : FramesAreAll
+  pub frames-are-long : FramesAreLong
+  pub frames-fit : FramesFit
   pub end-counts : EndCounts
   pub repairs-counted : RepairsCounted
   pub breaks-counted : BreaksCounted
