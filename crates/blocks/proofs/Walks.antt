@@ -8,7 +8,6 @@ use native.Mathlib.Omega.{arith}
 use borrow.Author.Tests.{lt-ltb, le-ltb, eq-eqb, ne-eqb, ltb-false}
 use lib.Dec.{eqb, ltb}
 use lib.ListN.{length}
-use Rattle.laws.specs.Turns.{turns}
 use Rattle.laws.proofs.Turns.{turns-once}
 use Rattle.blocks.specs.Blocks.{blockAt}
 use Rattle.blocks.specs.Walk.{longest, refuse, pastHead, pastVoice, met, stepOf, atStart, onward, walkFrom, walkedOf}

@@ -3,7 +3,6 @@
 -- Assumes nothing.
 use mathlib.Core.Path.{_≡_, _∙_, sym, refl, ap}
 use mathlib.Core.Bool.{Bool, true, false, cond}
-use mathlib.Core.List.{[], _∷_}
 use mathlib.Core.Logic.{_⊎_, inl, inr}
 use Prim.Native.Nat.{ℕ, _+_, _-_, _*_, _%_, _<_, _≤_}
 use native.Mathlib.Omega.{arith}
@@ -20,7 +19,7 @@ use Rattle.laws.specs.Table.{every}
 use Rattle.laws.proofs.Table.{at}
 use Rattle.codebook.specs.Book.{book}
 use Rattle.codebook.specs.Code.{codeOf}
-use Rattle.codebook.specs.Draw.{wrapped, positionOf, movedOf, freshGenerator, drawOf, draws}
+use Rattle.codebook.specs.Draw.{wrapped, positionOf, movedOf, drawOf}
 use Rattle.codebook.specs.declared.Generator.{Generator}
 use Rattle.codebook.proofs.Sixteen as sixteen
 use Rattle.codebook.proofs.Drawing.{fifth, by-remainder, round, down}

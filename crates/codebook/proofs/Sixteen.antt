@@ -10,7 +10,7 @@ use lib.Dec.{T}
 use lib.IntN.{ℤ, pos, negsuc, subℕ, negℤ, natAbs, _+ℤ_, _-ℤ_, _*ℤ_, +ℤ-idr, +ℤ-assoc, -ℤ-+ℤ-cancel, +ℤ-one, -ℤ-one, sucℤ-*ℤ, predℤ-*ℤ, ℤ-ind}
 use lib.Signed.{mag, nonNeg, ltZ}
 use mir.Syntax.{w16, w32}
-use mir.Val.{Fits, SFits, bits, hbits, ofZ, toZ}
+use mir.Val.{Fits, SFits, hbits, ofZ, toZ}
 use mir.Facts.{toZ-ofZ, sfits-widen, sfits-toZ, toZ-pos, toZ-neg}
 use borrow.Author.Needs.{sfits-of}
 use Rattle.codebook.specs.Draw.{wrapped}

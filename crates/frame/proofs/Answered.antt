@@ -1,21 +1,19 @@
 -- The returns of `read` and `write`: what was computed step by step is what the definitions say.
 -- Assumes nothing.
-use mathlib.Core.Path.{_≡_, _∙_, sym, refl, ap, subst}
-use mathlib.Core.Bool.{Bool, true, false, cond}
+use mathlib.Core.Path.{_≡_, _∙_, sym, refl, ap}
 use mathlib.Core.List.{List}
-use Prim.Native.Nat.{ℕ, zero, suc, _+_, _-_, _*_, _/_, _%_, _^_, _<_, _≤_}
+use Prim.Native.Nat.{ℕ, _*_, _%_, _<_, _≤_}
 use native.Mathlib.Omega.{arith}
 use native.Mathlib.Decide.{ℕ-discrete}
 use borrow.Author.Tests.{eq-eqb, ne-eqb}
-use lib.Dec.{eqb}
 use lib.ListN.{length, getD, set}
 use lib.Seq.{getD-set-same, getD-set-other}
-use Rattle.laws.specs.Total.{total, bit, fromBits}
-use Rattle.laws.specs.Tabulate.{tabulate, tabulateFrom}
+use Rattle.laws.specs.Total.{bit}
+use Rattle.laws.specs.Tabulate.{tabulate}
 use Rattle.laws.proofs.Total.{total-cong}
-use Rattle.laws.proofs.Tabulate.{length-tabulate, getD-tabulate, tabulate-cong}
+use Rattle.laws.proofs.Tabulate.{length-tabulate, getD-tabulate}
 use Rattle.laws.proofs.Bits.{fromBits-lt, fromBits-cong}
-use Rattle.record.specs.Fields.{tooLarge, indexOf}
+use Rattle.record.specs.Fields.{tooLarge}
 use Rattle.record.specs.declared.Record.{Record}
 use Rattle.frame.specs.Places.{fieldAt, bitIn}
 use Rattle.frame.specs.Parity.{guardedPlace, check, numberOf, number, mended}

@@ -13,11 +13,11 @@ use lib.Dec.{eqb}
 use lib.ListN.{length, getD, set, length-set, replicate, getD-replicate}
 use lib.Pow.{pow-mono}
 use lib.Seq.{getD-set-same, getD-set-other}
-use Rattle.laws.specs.Total.{total, bit}
+use Rattle.laws.specs.Total.{total}
 use Rattle.laws.specs.Tabulate.{tabulate}
 use Rattle.laws.proofs.Total.{total-more, total-most}
-use Rattle.laws.proofs.Filled.{Filled, filled-all}
-use Rattle.frame.specs.Places.{nameAt, fieldAt, bitIn}
+use Rattle.laws.proofs.Filled.{filled-all}
+use Rattle.frame.specs.Places.{fieldAt, bitIn}
 use Rattle.frame.specs.Frame.{bitAt, share, valueOf}
 use Rattle.frame.specs.Steps.{entries}
 use Rattle.frame.proofs.Places.{next, field-below, bit-below, entry-field, entry-bit}

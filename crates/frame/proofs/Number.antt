@@ -1,20 +1,19 @@
 -- The loop of `number_of`: four sums over the guarded bits passed. And the entries of the guarded bits.
 -- Assumes nothing.
-use mathlib.Core.Path.{_≡_, _∙_, sym, refl, ap, subst}
+use mathlib.Core.Path.{_≡_, _∙_, sym, refl, ap}
 use mathlib.Core.List.{List}
 use Prim.Native.Nat.{ℕ, zero, suc, _+_, _-_, _*_, _/_, _%_, _^_, _<_, _≤_}
 use native.Mathlib.Omega.{arith}
 use lib.Dec.{ltb, ltb→lt}
 use lib.Bits.{bitXor}
-use lib.ListN.{length, getD, set}
+use lib.ListN.{getD, set}
 use borrow.Author.Tests.{eq-eqb, ne-eqb}
 use lib.Pow.{shl-exact}
 use native.Mathlib.Nat.{one-mul}
-use Rattle.laws.specs.Table.{every}
 use Rattle.laws.specs.Total.{total, bit, fromBits}
 use Rattle.laws.proofs.Table.{at}
 use Rattle.laws.proofs.Total.{total-more, total-most}
-use Rattle.frame.specs.Parity.{check, numberOf}
+use Rattle.frame.specs.Parity.{numberOf}
 use Rattle.frame.specs.Steps.{guardedEntries, bitOfEntry, mendedFields}
 use Rattle.frame.proofs.Places.{next}
 

@@ -2,14 +2,13 @@
 -- Assumes nothing.
 use mathlib.Core.Path.{_≡_, _∙_, sym, refl, ap, subst}
 use mathlib.Core.List.{List}
-use Prim.Native.Nat.{ℕ, zero, suc, _+_, _-_, _*_, _/_, _%_, _^_, _<_, _≤_}
+use Prim.Native.Nat.{ℕ, suc, _+_, _-_, _*_, _/_, _%_, _^_, _<_, _≤_}
 use native.Mathlib.Omega.{arith}
 use native.Mathlib.Numerals.{add-one}
-use lib.ListN.{length, getD}
+use lib.ListN.{getD}
 use lib.Pow.{pow-mono}
-use Rattle.laws.specs.Total.{bit, fromBits}
+use Rattle.laws.specs.Total.{fromBits}
 use Rattle.laws.proofs.Bits.{fromBits-lt, fromBits-low, fromBits-cong}
-use Rattle.frame.specs.Places.{fieldAt, bitIn}
 use Rattle.frame.specs.Frame.{sent}
 use Rattle.frame.specs.Steps.{entries}
 use Rattle.frame.proofs.Places.{entry-field, entry-bit, field-below, next}

@@ -1,15 +1,13 @@
 -- Facts of the table of 3.8.2, each one computed test over all of its places.
 -- Assumes nothing.
 use mathlib.Core.Path.{_≡_, _∙_, sym, refl, ap, subst}
-use mathlib.Core.Bool.{Bool}
-use mathlib.Core.List.{List, map}
-use Prim.Native.Nat.{ℕ, suc, _+_, _-_, _*_, _/_, _%_, _<_, _≤_}
+use Prim.Native.Nat.{ℕ, _+_, _-_, _*_, _/_, _%_, _<_}
 use native.Mathlib.Omega.{arith}
-use lib.Dec.{T, ltb, ltb→lt, eqb, eqb→eq}
+use lib.Dec.{T, ltb, ltb→lt}
 use lib.ListN.{length, getD, List·getD-map}
-use Rattle.laws.specs.Table.{both, every}
-use Rattle.laws.proofs.Table.{at, both-left, both-right}
-use Rattle.frame.specs.Places.{Name, places, fieldOf, bitOf, nameAt, fieldAt, bitIn, bitsIn, seek, placeOf}
+use Rattle.laws.specs.Table.{every}
+use Rattle.laws.proofs.Table.{at}
+use Rattle.frame.specs.Places.{Name, places, fieldOf, bitOf, fieldAt, bitIn, bitsIn}
 use Rattle.frame.specs.Places.Name.{HP}
 use Rattle.frame.specs.Steps.{entryOf, entries}
 

@@ -1,5 +1,5 @@
 -- What reading and writing answer: the cases, and the numbers that document 01 gives them.
-use mathlib.Core.Bool.{Bool, cond}
+use mathlib.Core.Bool.{cond}
 use mathlib.Core.List.{List, [], _∷_}
 use Prim.Native.Nat.{ℕ}
 use lib.Dec.{eqb}

@@ -1,15 +1,15 @@
 -- Eighteen bytes and the 144 bits in them; reading and writing a frame.
-use mathlib.Core.Bool.{Bool, cond}
-use mathlib.Core.List.{List, [], _∷_}
+use mathlib.Core.Bool.{cond}
+use mathlib.Core.List.{List}
 use Prim.Native.Nat.{ℕ, _+_, _-_, _*_, _/_, _%_, _^_}
 use lib.Dec.{eqb}
-use lib.ListN.{getD, length}
+use lib.ListN.{getD}
 use Rattle.laws.specs.Total.{total, bit, fromBits}
 use Rattle.laws.specs.Tabulate.{tabulate}
 use Rattle.record.specs.Fields.{indexOf}
 use Rattle.record.specs.declared.Record.{Record}
 use Rattle.frame.specs.Places.{fieldAt, bitIn}
-use Rattle.frame.specs.Parity.{numberOf, guardedPlace, number, mended}
+use Rattle.frame.specs.Parity.{number}
 
 -- the house rule on the order of bits: place 1 is the top bit of byte 0, place 144 the lowest bit of byte 17
 abbrev pub byteOf : ℕ → ℕ

@@ -1,10 +1,10 @@
 -- What the private steps of reading and writing answer.
-use mathlib.Core.Bool.{Bool, cond}
-use mathlib.Core.List.{List, [], _∷_, map}
-use Prim.Native.Nat.{ℕ, zero, suc, _+_, _-_, _*_, _/_, _%_, _^_}
+use mathlib.Core.Bool.{cond}
+use mathlib.Core.List.{List, map}
+use Prim.Native.Nat.{ℕ, _+_, _-_, _*_, _/_, _%_, _^_}
 use lib.Bits.{bitXor}
 use lib.Dec.{eqb}
-use lib.ListN.{getD, length, set}
+use lib.ListN.{getD, set}
 use Rattle.laws.specs.Total.{bit}
 use Rattle.laws.specs.Tabulate.{tabulate}
 use Rattle.record.specs.Fields.{indexOf}

@@ -3,11 +3,10 @@
 // number, the four parity bits HP-0 to HP-3 under 0.
 use record::Record;
 ghost use mathlib.Core.Path.{_≡_};
-ghost use mathlib.Core.List.{List};
-ghost use Prim.Native.Nat.{ℕ, _+_, _-_, _*_, _≤_, _<_, _^_};
-ghost use lib.ListN.{length, getD, set};
+ghost use Prim.Native.Nat.{_+_, _-_, _*_, _≤_, _<_, _^_};
+ghost use lib.ListN.{length, getD};
 ghost use Rattle.laws.specs.Tabulate.{tabulate};
-ghost use Rattle.laws.specs.Total.{bit, fromBits};
+ghost use Rattle.laws.specs.Total.{fromBits};
 ghost use Rattle.frame.specs.Parity.{numberOf};
 ghost use Rattle.frame.specs.Frame.{bitAt, packed, valueOf, sent};
 ghost use Rattle.frame.specs.Answers.{readingOf, writtenOf, frameLeft, recordMark};

@@ -5,7 +5,7 @@ use mathlib.Core.List.{List}
 use Prim.Native.Nat.{ℕ, _+_, _*_, _/_, _%_, _<_}
 use native.Mathlib.Omega.{arith}
 use Rattle.frame.specs.Answers.{readingOf}
-use Rattle.frame.proofs.Readings.{InRange, reading-range}
+use Rattle.frame.proofs.Readings.{reading-range}
 
 module _ (s : List ℕ) where
   pub reading-small : 16 * readingOf s .mark + readingOf s .number < 160

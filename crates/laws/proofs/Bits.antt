@@ -1,8 +1,8 @@
 -- A number and its bits.
 -- Assumes nothing.
 use mathlib.Core.Path.{_≡_, _∙_, sym, refl, ap, subst}
-use mathlib.Core.Bool.{Bool, true, false}
-use Prim.Native.Nat.{ℕ, zero, suc, _+_, _-_, _*_, _/_, _%_, _^_, _<_, _≤_}
+use mathlib.Core.Bool.{true, false}
+use Prim.Native.Nat.{ℕ, zero, suc, _+_, _*_, _/_, _%_, _^_, _<_, _≤_}
 use native.Mathlib.Omega.{arith}
 use native.Mathlib.Numerals.{one-add}
 use native.Mathlib.Decide.{ℕ-discrete, decLe}
@@ -10,7 +10,7 @@ use native.Mathlib.Nat.{div-lt-iff-lt-mul, one-mul, pow-suc, zero-div}
 use borrow.Author.Tests.{le-leb, lt-leb}
 use lib.Dec.{leb}
 use lib.Pow.{pow-pos, shr-shr}
-use lib.Bits.{bitXor, differ, xor-step, xor-shr, xor-lt}
+use lib.Bits.{bitXor, differ, xor-step, xor-shr}
 use Rattle.laws.specs.Total.{bit, fromBits}
 
 -- nothing is left of a number shifted right by its width

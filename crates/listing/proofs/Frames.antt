@@ -7,24 +7,21 @@ use native.Mathlib.Omega.{arith}
 use native.Mathlib.Numerals.{add-one}
 use lib.ListN.{length}
 use Rattle.record.specs.Fields.{tooLarge}
-use Rattle.record.specs.declared.Record.{Record}
 use Rattle.frame.specs.Answers.{readingOf}
 use Rattle.frame.specs.declared.Reading.{Reading}
 use Rattle.blocks.specs.Blocks.{part}
 use Rattle.blocks.specs.Walk.{longest}
 use Rattle.blocks.specs.Frames.{afterHead, foundAt, framesFrom}
-use Rattle.recording.specs.Judged.{repairBy, breakBy, repairedIn, breaksFrom, countsOf}
-use Rattle.blocks.specs.declared.Found.{Found}
+use Rattle.recording.specs.Judged.{repairBy, breakBy}
 use Rattle.blocks.specs.declared.Found.the-variants.{At, Nothing}
 use Rattle.recording.specs.declared.Counts.{Counts}
 use Rattle.blocks.proofs.Frames.{frames-none, frames-more}
 use Rattle.recording.proofs.Counting.{Counting, counting-start, counting-done, counting-on}
-use Rattle.text.specs.Laid.{laid, after}
 use Rattle.text.proofs.Laid.{laid-none, put-then}
 use Rattle.listing.specs.Lines.{frameLine, lastLine}
 use Rattle.listing.specs.Listing.{linesFrom, bodyOf}
 use Rattle.listing.proofs.Puts.{Put, put-as}
-use Rattle.frame.proofs.Readings.{InRange, reading-range}
+use Rattle.frame.proofs.Readings.{reading-range}
 
 -- what was laid and the lines of the frames that are left make the lines of all; what was counted, and what is left, the counts of all
 pub record Listing (s before : List ℕ) (start : ℕ) (o : List ℕ) (end at left count repaired breaks : ℕ) : Type 0 where

@@ -8,7 +8,7 @@ use Rattle.record.specs.Fields.{tooLarge}
 use Rattle.record.specs.declared.Record.{Record}
 use Rattle.delays.specs.Codes.{heardOf}
 use Rattle.frame.specs.declared.Reading.{Reading}
-use Rattle.values.specs.Outcome.{outcomeOf, refusalOf}
+use Rattle.values.specs.Outcome.{refusalOf}
 use Rattle.values.specs.Values.{delaysOf}
 use Rattle.values.specs.declared.Outcome.{Outcome}
 use Rattle.values.proofs.Laws.{outcome-expansion, heard-unless-one}

@@ -1,12 +1,11 @@
 -- The returns of `list`.
 -- Assumes nothing.
-use mathlib.Core.Path.{_≡_, _∙_, sym, refl, ap}
+use mathlib.Core.Path.{_≡_, _∙_, sym, ap}
 use mathlib.Core.List.{List, _++_}
 use Prim.Native.Nat.{ℕ, _+_, _-_, _<_, _≤_}
 use native.Mathlib.Omega.{arith}
 use borrow.Author.Tests.{eq-eqb, ne-eqb}
-use lib.Dec.{eqb}
-use lib.ListN.{length, take, drop, getD}
+use lib.ListN.{length, drop, getD}
 use lib.Seq.{take-all}
 use Rattle.blocks.specs.Walk.{longest, walkedOf}
 use Rattle.blocks.specs.Frames.{afterHead, framesOf, framesFrom}
@@ -16,7 +15,7 @@ use Rattle.blocks.specs.declared.Walked.{Walked}
 use Rattle.blocks.specs.declared.Walked.the-variants.{Whole, Refused}
 use Rattle.blocks.proofs.Walks.{whole-short}
 use Rattle.blocks.proofs.Frames.{frames-whole}
-use Rattle.text.specs.Laid.{laid, after}
+use Rattle.text.specs.Laid.{laid}
 use Rattle.text.proofs.Laid.{put-then}
 use Rattle.listing.specs.Lines.{headLine, refusedLine}
 use Rattle.listing.specs.Listing.{bodyOf, textOf, listingOf, room, listedOf, listingLeft}

@@ -1,8 +1,8 @@
 -- Every listing is short enough: what a walk tells, how many frames there are, and how long their lines are.
 -- Assumes nothing.
-use mathlib.Core.Path.{_≡_, _∙_, sym, refl, ap, subst}
+use mathlib.Core.Path.{_≡_, sym, refl}
 use mathlib.Core.Bool.{Bool, true, false, cond}
-use mathlib.Core.List.{List, [], _∷_, _++_}
+use mathlib.Core.List.{List, [], _∷_}
 use Prim.Native.Nat.{ℕ, zero, suc, _+_, _-_, _*_, _%_, _^_, _<_, _≤_}
 use native.Mathlib.Omega.{arith}
 use native.Mathlib.Decide.{ℕ-discrete}
@@ -18,7 +18,7 @@ use Rattle.frame.specs.declared.Reading.{Reading}
 use Rattle.values.specs.Values.{delaysOf}
 use Rattle.values.proofs.Laws.{delays-within}
 use Rattle.blocks.specs.Blocks.{wordAt, sizeAt, kindAt, blockAt}
-use Rattle.blocks.specs.Walk.{longest, refuse, atEnd, met, stepOf, atStart, onward, walkFrom, walkedOf}
+use Rattle.blocks.specs.Walk.{longest, met, stepOf, atStart, onward, walkFrom, walkedOf}
 use Rattle.blocks.specs.Frames.{afterHead, foundAt, framesOf, framesFrom}
 use Rattle.recording.specs.Judged.{repairedIn, breaksFrom}
 use Rattle.blocks.specs.Refusals as recording
@@ -36,9 +36,8 @@ use Rattle.blocks.specs.declared.Walked.{Walked}
 use Rattle.blocks.specs.declared.Walked.the-variants.{Whole, Refused}
 use Rattle.blocks.proofs.Blocks.{head-told}
 use Rattle.blocks.proofs.Walks.{Further, Passed, passed-head, passed-voice, step-passed, step-further, end-room, whole-short}
-use Rattle.blocks.proofs.Frames.{Within, found-within, frames-none, frames-more, frames-whole}
-use Rattle.recording.proofs.Counting.{repair-small, break-small, repaired-more, breaks-more}
-use Rattle.text.specs.Ascii.{ascii}
+use Rattle.blocks.proofs.Frames.{found-within, frames-none, frames-more, frames-whole}
+use Rattle.recording.proofs.Counting.{repair-small, break-small}
 use Rattle.text.specs.Decimal.{decimal}
 use Rattle.text.proofs.Decimal.{decimal-most}
 use Rattle.listing.specs.Lines.{headLine, fields, frameLine, lastLine, placeOf, refusedLine}

@@ -4,7 +4,6 @@ use mathlib.Core.List.{List, [], _∷_, _++_}
 use Prim.Native.Nat.{ℕ}
 use lib.Dec.{eqb}
 use lib.ListN.{getD}
-use Rattle.record.specs.declared.Record.{Record}
 use Rattle.frame.specs.declared.Reading.{Reading}
 use Rattle.values.specs.Outcome.{outcomeOf, refusalOf}
 use Rattle.values.specs.Values.{delaysOf}

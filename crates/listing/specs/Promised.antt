@@ -1,6 +1,5 @@
 -- What holds of every listing.
-use mathlib.Core.List.{List, []}
-use mathlib.Core.Path.{_≡_}
+use mathlib.Core.List.{List}
 use Prim.Native.Nat.{ℕ, _<_, _≤_}
 use lib.ListN.{length, getD}
 use Rattle.listing.specs.Listing.{room, listingOf}

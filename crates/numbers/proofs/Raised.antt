@@ -1,14 +1,13 @@
 -- A signed number and how far it is above the least one of 32 bits: neither way does a step leave its type.
 -- Assumes nothing.
 use mathlib.Core.Path.{_≡_, _∙_, ap, refl}
-use Prim.Native.Nat.{ℕ, suc, _+_, _-_, _^_, _<_, _≤_}
+use Prim.Native.Nat.{ℕ, suc, _+_, _<_, _≤_}
 use native.Mathlib.Omega.{arith}
 use native.Mathlib.Decide.{decLe}
 use borrow.Author.Needs.{sfits-of}
 use lib.IntN.{ℤ, pos, negsuc, _+ℤ_, _-ℤ_}
-use lib.Signed.{mag}
 use mir.Syntax.{w16, w32, w64}
-use mir.Val.{Fits, SFits, hbits, toZ}
+use mir.Val.{Fits, SFits, toZ}
 use mir.Facts.{toZ-ofZ, toZ-pos, sfits-widen}
 use Rattle.laws.proofs.Held.{held, cast-is}
 use Rattle.codebook.proofs.Sixteen.{sub-over, sub-under}

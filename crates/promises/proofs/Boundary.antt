@@ -1,14 +1,13 @@
 -- The C boundary, shown by the laws of the gateway and of frames.
 -- Assumes nothing.
-use mathlib.Core.Path.{_≡_, _∙_, sym, refl, ap, subst}
+use mathlib.Core.Path.{_≡_, _∙_, sym, refl, ap}
 use mathlib.Core.List.{List}
 use Prim.Native.Nat.{ℕ, _+_, _*_}
 use native.Mathlib.Omega.{arith}
 use borrow.Author.Tests.{eq-eqb}
-use lib.IntN.{ℤ, pos, natAbs}
+use lib.IntN.{pos, natAbs}
 use lib.ListN.{length}
 use Rattle.laws.proofs.Tabulate.{length-tabulate}
-use Rattle.record.specs.declared.Record.{Record}
 use Rattle.frame.specs.Frame.{frameOf}
 use Rattle.frame.specs.Answers.{readingOf, writtenOf, frameLeft, leftBy, refusalOf}
 use Rattle.frame.specs.declared.Reading.{Reading}
@@ -17,11 +16,11 @@ use Rattle.frame.specs.declared.Written.{Written}
 use Rattle.frame.specs.declared.Written.the-variants as Written
 use Rattle.frame.proofs.Answered.{read-eighteen}
 use Rattle.gateway.specs.Pairs.{bytesOf, indexIn, recordIn}
-use Rattle.gateway.specs.Results.{refused, readAnswer, readResult, readInto, recordLeft, writeResult, frameLeftBy}
+use Rattle.gateway.specs.Results.{refused, readResult, recordLeft, writeResult, frameLeftBy}
 use Rattle.gateway.proofs.Laws.{record-of-bytes, bytes-of-record}
 use Rattle.gateway.proofs.Ranges.{reading-apart}
 use Rattle.promises.specs.Frames.{Shaped, ReadsBack}
-use Rattle.promises.specs.Boundary.{FiftySix, PairsHoldRecord, ReadsInto, ReadTells, WriteTells, BoundaryReadsBack}
+use Rattle.promises.specs.Boundary.{PairsHoldRecord, ReadTells, WriteTells, BoundaryReadsBack}
 use Rattle.promises.proofs.Frames.{reads-back}
 
 pub pairs-hold-record : PairsHoldRecord

@@ -3,11 +3,11 @@
 use mathlib.Core.Path.{_≡_, _∙_, sym, refl, ap, subst}
 use mathlib.Core.Bool.{Bool, true, false, cond}
 use mathlib.Core.List.{List}
-use Prim.Native.Nat.{ℕ, zero, suc, _+_, _-_, _*_, _/_, _%_, _^_, _<_, _≤_}
+use Prim.Native.Nat.{ℕ, _+_, _%_, _<_, _≤_}
 use native.Mathlib.Omega.{arith}
 use native.Mathlib.Decide.{ℕ-discrete}
 use borrow.Author.Tests.{eq-eqb, ne-eqb}
-use lib.Bits.{bitXor, xor-lt}
+use lib.Bits.{bitXor}
 use lib.Dec.{eqb}
 use lib.ListN.{length, getD}
 use Rattle.laws.specs.Total.{bit}
@@ -17,20 +17,20 @@ use Rattle.record.specs.Fields.{tooLarge, indexOf, widthOf}
 use Rattle.record.specs.declared.Record.{Record}
 use Rattle.record.proofs.Laws.{none-too-large, all-fit-none-too-large, record-is}
 use Rattle.frame.specs.Places.{fieldAt, bitIn, bitsIn, placeOf, fieldOf, bitOf}
-use Rattle.frame.specs.Parity.{guardedName, guardedPlace, number, mended, inverted, invertedAt}
+use Rattle.frame.specs.Parity.{guardedName, guardedPlace, number, mended, inverted}
 use Rattle.frame.specs.Frame.{byteOf, shiftOf, bitAt, packed, valueOf, recordOf, sent, withParity, parityOf, frameOf}
-use Rattle.frame.specs.Answers.{recordMark, readIn, readingOf, writtenOf, frameLeft}
+use Rattle.frame.specs.Answers.{recordMark, readingOf, writtenOf}
 use Rattle.frame.specs.declared.Reading.{Reading}
 use Rattle.frame.specs.declared.Verdict.the-variants as Verdict
 use Rattle.frame.specs.declared.Written.the-variants as Written
 use Rattle.frame.proofs.Fields.{value-small, value-bit, field-small, bit-small, place-of-here, place-first, place-last, field-of-place}
 use Rattle.frame.proofs.Gathered.{bitAt-small}
 use Rattle.frame.proofs.Packed.{sent-small}
-use Rattle.frame.proofs.Mended.{guarded-field-small, guarded-bit-small, guarded-place, guarded-first, guarded-last, guarded-apart, mended-bits, mended-same, mended-there}
+use Rattle.frame.proofs.Mended.{guarded-field-small, guarded-bit-small, guarded-place, guarded-first, guarded-apart, mended-bits, mended-same, mended-there}
 use Rattle.frame.proofs.Answered.{accepted, Accepted, accepted-only, left, read-eighteen}
 use Rattle.frame.proofs.Readings.{record-fits}
-use Rattle.frame.proofs.Laws.{bit-packed, packed-byte, length-packed, packed-bits, packed-cong-bits, number-cong, value-cong, record-cong, mended-cong, value-sent, clean-same, guardedOf, bit-number, number-is, clean-check, number-over, mended-over, parity-below, written-clean, index-of-record, bits-width, as-sent, parity-told, number-one, number-none, mended-one, number-two, nowhere}
-use Rattle.promises.specs.Frames.{Shaped, Eighteen, ReadsBack, WritesBack, Clean, SameBits, Made, flipped, readBit, DamageAlone, Flipped, Unflipped, OneMended, TwoReported, EveryFrameRead, OneFrame, Comes, SixteenFrames}
+use Rattle.frame.proofs.Laws.{bit-packed, packed-byte, length-packed, packed-bits, packed-cong-bits, number-cong, record-cong, value-sent, clean-same, bit-number, clean-check, number-over, mended-over, parity-below, written-clean, index-of-record, bits-width, as-sent, parity-told, number-one, number-none, mended-one, number-two, nowhere}
+use Rattle.promises.specs.Frames.{Shaped, Eighteen, ReadsBack, WritesBack, Clean, SameBits, Made, flipped, readBit, DamageAlone, OneMended, TwoReported, EveryFrameRead, OneFrame, Comes, SixteenFrames}
 
 -- the frame of a record, bit by bit
 module _ (r : Record) where

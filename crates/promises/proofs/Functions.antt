@@ -1,6 +1,6 @@
 -- The promises about frames, carried to `frame::read` and `frame::write` by their contracts.
 -- Assumes nothing.
-use mathlib.Core.Path.{_≡_, _∙_, sym, refl, ap, subst}
+use mathlib.Core.Path.{_≡_, _∙_, sym, ap, subst}
 use mathlib.Core.List.{List}
 use Prim.Native.Nat.{ℕ, _+_, _%_, _<_, _≤_}
 use lib.ListN.{length}
@@ -10,13 +10,12 @@ use Rattle.record.specs.declared.Record.{Record}
 use Rattle.frame.specs.Places.{fieldOf, bitOf}
 use Rattle.frame.specs.Parity.{guardedName}
 use Rattle.frame.specs.Answers.{readingOf, writtenOf, frameLeft}
-use Rattle.frame.specs.Frame.{frameOf}
 use Rattle.frame.specs.declared.Reading.{Reading}
 use Rattle.frame.specs.declared.Written.{Written}
 use Rattle.frame.specs.declared.Written.the-variants as Written
 use Rattle.frame.proofs.Answered.{accepted-only, left}
-use Rattle.promises.specs.Frames.{Shaped, Eighteen, ReadsBack, WritesBack, Clean, SameBits, Made, DamageAlone, OneMended, TwoReported, OneFrame, flipped}
-use Rattle.promises.specs.Functions.{Answers, Leaves, WriteThenRead, ReadThenWrite, Damaged, RepairByDamage, OneFlip, TwoFlips, NoTwoFrames}
+use Rattle.promises.specs.Frames.{Shaped, ReadsBack, WritesBack, SameBits, Made, DamageAlone, OneMended, TwoReported, OneFrame}
+use Rattle.promises.specs.Functions.{Answers, Leaves, WriteThenRead, ReadThenWrite, RepairByDamage, OneFlip, TwoFlips, NoTwoFrames}
 use Rattle.promises.proofs.Frames.{reads-back, same-bits-back, damage-alone, one-mended, two-reported, one-frame}
 
 -- what the contracts say of an answer and of the bytes left

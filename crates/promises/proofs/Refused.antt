@@ -4,10 +4,10 @@ use mathlib.Core.Path.{_≡_, _∙_, sym, refl, ap, subst}
 use mathlib.Core.Bool.{Bool, true, false, cond, true≢false}
 use mathlib.Core.List.{List, [], _∷_}
 use mathlib.Core.Logic.{_↔_}
-use Prim.Native.Nat.{ℕ, zero, suc, _+_, _-_, _*_, _^_, _<_, _≤_}
+use Prim.Native.Nat.{ℕ, _+_, _-_, _*_, _<_, _≤_}
 use native.Mathlib.Omega.{arith}
 use native.Mathlib.Decide.{ℕ-discrete, decLe}
-use borrow.Author.Tests.{eq-eqb, ne-eqb, le-leb, lt-leb, lt-ltb, le-ltb, ltb-true, ltb-false}
+use borrow.Author.Tests.{eq-eqb, ne-eqb, le-leb, lt-leb, lt-ltb, ltb-true, ltb-false}
 use lib.Dec.{eqb}
 use lib.IntN.{ℤ, pos}
 use lib.ListN.{length}
@@ -37,16 +37,14 @@ use Rattle.frame.specs.declared.Verdict.the-variants as Verdict
 use Rattle.frame.specs.declared.Written.{Written}
 use Rattle.frame.specs.declared.Written.the-variants as Written
 use Rattle.frame.proofs.Answered.{read-eighteen, read-refused, wrong-length, too-large, falling, expansion, accepted}
-use Rattle.values.specs.Values.{valuesOf}
 use Rattle.values.specs.Outcome.{outcomeOf}
 use Rattle.values.specs.Outcome as outcome
 use Rattle.values.specs.declared.Outcome.{Outcome}
 use Rattle.values.specs.declared.Outcome.the-variants.{Heard, TooLarge, Expansion}
-use Rattle.values.specs.declared.State.{State}
 use Rattle.values.proofs.Laws.{by-outcome, outcome-too-large, outcome-expansion, outcome-heard, values-outcome, refused-state}
 use Rattle.gateway.specs.Pairs.{recordIn}
 use Rattle.gateway.specs.Results.{refused, readAnswer, readResult, readInto, recordLeft, writeResult, frameLeftBy}
-use Rattle.promises.specs.Refused.{ReaderRefuses, Fits, LowestTooLarge, Ordered, LowestFall, WriterGives, WriterRefuses, RefusedFrameStays, HearingGives, HearingRefuses, RefusedStateStays, Listed, Follows, FirstNotListed, first-unlisted, second-unlisted, third-unlisted, fourth-unlisted, FirstOutside, second-outside, fourth-outside, Sends, CodingGives, DelaysRefuse, CodeGives, CodeRefuses, RefusedCodeStays, GainRefuses, RefusedReadStays, RefusedWriteStays}
+use Rattle.promises.specs.Refused.{ReaderRefuses, LowestTooLarge, Ordered, LowestFall, WriterGives, WriterRefuses, RefusedFrameStays, HearingGives, HearingRefuses, RefusedStateStays, Listed, Follows, FirstNotListed, first-unlisted, second-unlisted, third-unlisted, fourth-unlisted, FirstOutside, second-outside, fourth-outside, Sends, CodingGives, DelaysRefuse, CodeGives, CodeRefuses, RefusedCodeStays, GainRefuses, RefusedReadStays, RefusedWriteStays}
 
 pub reader-refuses : ReaderRefuses
 unfolding ReaderRefuses

@@ -3,7 +3,7 @@
 use mathlib.Core.Path.{_≡_, _∙_, sym, refl, ap, subst}
 use mathlib.Core.Bool.{Bool, true, false, cond}
 use mathlib.Core.List.{List, [], _∷_}
-use Prim.Native.Nat.{ℕ, zero, suc, _+_, _%_, _<_, _≤_}
+use Prim.Native.Nat.{ℕ, _+_, _%_, _<_, _≤_}
 use native.Mathlib.Omega.{arith}
 use native.Mathlib.Decide.{ℕ-discrete}
 use borrow.Author.Tests.{eq-eqb, ne-eqb}
@@ -17,16 +17,16 @@ use Rattle.laws.specs.Tabulate.{tabulateFrom}
 use Rattle.laws.specs.Total.{total, fromBits}
 use Rattle.record.specs.Fields.{widthOf}
 use Rattle.frame.specs.Places.{places, seek, fieldAt, bitIn, bitsIn, placeOf, fieldOf, bitOf}
-use Rattle.frame.specs.Parity.{guardedName, guardedPlace, inverted, number, mended}
+use Rattle.frame.specs.Parity.{guardedName, guardedPlace, number, mended}
 use Rattle.frame.specs.Frame.{bitAt, packed, valueOf}
 use Rattle.frame.specs.Answers.{readingOf, recordMark}
-use Rattle.frame.proofs.Fields.{place-first, place-last, field-of-place, bit-of-place}
+use Rattle.frame.proofs.Fields.{place-first, field-of-place, bit-of-place}
 use Rattle.frame.proofs.Gathered.{bitAt-small}
 use Rattle.frame.proofs.Mended.{guarded-field-small, guarded-bit-small, guarded-place, field-of-guarded, mended-same, mended-there}
-use Rattle.frame.proofs.Laws.{bits-width, packed-byte, length-packed, clean-same, number-none, number-third, number-below, nowhere}
-use Rattle.promises.specs.Frames.{Eighteen, Made, flipped, readBit, Unflipped}
+use Rattle.frame.proofs.Laws.{bits-width, packed-byte, length-packed, number-none, number-third, number-below, nowhere}
+use Rattle.promises.specs.Frames.{Eighteen, flipped, readBit, Unflipped}
 use Rattle.promises.specs.Worked.{only, isIn}
-use Rattle.promises.specs.Repairs.{AsItCame, CleanChangesNothing, ParityNumber, one, two, four, eight, ParityHitChangesNothing, OneInverted, DataHitInvertsOne, TwoNeverMended, UnguardedUnseen, ThreeUnseen}
+use Rattle.promises.specs.Repairs.{AsItCame, CleanChangesNothing, ParityNumber, one, two, four, eight, ParityHitChangesNothing, DataHitInvertsOne, TwoNeverMended, UnguardedUnseen, ThreeUnseen}
 use Rattle.promises.proofs.Frames.{read-number, read-bit, flips-bit, flips-number}
 
 -- a bit at another place than the number's is read as it came

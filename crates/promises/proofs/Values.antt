@@ -1,9 +1,8 @@
 -- What indices mean, shown by the laws of the leaf crates.
 -- Assumes nothing.
 use mathlib.Core.Path.{_≡_, _∙_, sym, refl, ap}
-use mathlib.Core.List.{List, [], _∷_}
-use Prim.Native.Nat.{ℕ, _+_, _-_, _*_, _<_, _≤_}
-use native.Mathlib.Omega.{arith}
+use mathlib.Core.List.{List}
+use Prim.Native.Nat.{ℕ, _+_, _-_, _≤_}
 use lib.IntN.{ℤ, pos, _+ℤ_}
 use lib.ListN.{getD}
 use Rattle.record.specs.declared.Record.{Record}
@@ -14,7 +13,7 @@ use Rattle.delays.proofs.Laws.{codes-whole, window-start, window-end}
 use Rattle.laws.proofs.Cases.{of-four}
 use Rattle.lsp.proofs.Laws.{mark-in-order, mark-falls}
 use Rattle.codebook.specs.Code.{codeOf}
-use Rattle.codebook.specs.Draw.{wrapped, drawOf}
+use Rattle.codebook.specs.Draw.{drawOf}
 use Rattle.codebook.proofs.Laws.{code-ternary, one-of-three, overlap, wrapped-congruent, sum-only, position-range}
 use Rattle.values.specs.Outcome.{outcomeOf}
 use Rattle.values.specs.Values.{inSubframes, cgIndex, pgIndex, delaysOf, valuesOf, freshState}

@@ -3,14 +3,14 @@
 use mathlib.Core.Path.{_≡_}
 use mathlib.Core.List.{List}
 use Prim.Native.Nat.{ℕ, _/_, _%_, _<_}
-use lib.IntN.{ℤ, pos, negℤ}
+use lib.IntN.{pos, negℤ}
 use lib.ListN.{length, getD}
 use Rattle.record.specs.declared.Record.{Record}
 use Rattle.frame.specs.Frame.{frameOf}
 use Rattle.frame.specs.Answers.{readingOf, writtenOf, refusalOf}
 use Rattle.gateway.specs.Pairs.{bytesOf, recordIn}
 use Rattle.gateway.specs.Results.{readResult, recordLeft, writeResult, frameLeftBy}
-use Rattle.promises.specs.Frames.{Shaped, Eighteen}
+use Rattle.promises.specs.Frames.{Shaped}
 
 -- 56 bytes
 pub record FiftySix (s : List ℕ) : Type 0 where

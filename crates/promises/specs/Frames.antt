@@ -1,7 +1,7 @@
 -- The second and the third demand for frames. Each statement is about the definitions that the contracts of `frame::read` and
 -- `frame::write` cite; proofs/Frames.antt shows each and carries it to the two functions.
 use mathlib.Core.Path.{_≡_}
-use mathlib.Core.List.{List, []}
+use mathlib.Core.List.{List}
 use mathlib.Core.Logic.{_↔_}
 use Prim.Native.Nat.{ℕ, _+_, _%_, _^_, _<_, _≤_}
 use lib.Bits.{bitXor}
@@ -14,7 +14,6 @@ use Rattle.frame.specs.Places.{fieldOf, bitOf}
 use Rattle.frame.specs.Parity.{guardedName, guardedPlace}
 use Rattle.frame.specs.Frame.{bitAt, frameOf}
 use Rattle.frame.specs.Answers.{readingOf, writtenOf, frameLeft}
-use Rattle.frame.specs.declared.Reading.{Reading}
 use Rattle.frame.specs.declared.Verdict.the-variants as Verdict
 use Rattle.frame.specs.declared.Written.the-variants as Written
 

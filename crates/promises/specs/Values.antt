@@ -1,7 +1,7 @@
 -- The second demand for what indices mean: "the gains, delays, averaged parameters and 512 ternary codes", over the definitions that the
 -- contracts cite. That the tables are the printed ones is what EVIDENCE compares.
 use mathlib.Core.Path.{_≡_}
-use mathlib.Core.Bool.{true, false}
+use mathlib.Core.Bool.{true}
 use mathlib.Core.List.{List, [], _∷_}
 use mathlib.Core.Logic.{_⊎_, _↔_}
 use Prim.Native.Nat.{ℕ, _+_, _-_, _*_, _<_, _≤_}
@@ -17,7 +17,6 @@ use Rattle.delays.specs.Codes.{afterOf, heardOf, codedOf}
 use Rattle.delays.specs.declared.Coded.the-variants.{Codes}
 use Rattle.lsp.specs.Table.{lsp, hertzOf}
 use Rattle.lsp.specs.Order.{markOf, InOrder}
-use Rattle.lsp.specs.Average.{subframe}
 use Rattle.codebook.specs.Code.{codeOf}
 use Rattle.codebook.specs.Draw.{positionOf, wrapped, keptAt, drawOf}
 use Rattle.codebook.specs.declared.Generator.{Generator}

@@ -1,6 +1,6 @@
 -- The twelve worked numbers of document 01, as one list over the definitions that the contracts cite. proofs/Worked.antt computes it.
 use mathlib.Core.Bool.{Bool, true, false, cond}
-use mathlib.Core.List.{List, [], _∷_, _++_, map}
+use mathlib.Core.List.{List, [], _∷_, map}
 use Prim.Native.Nat.{ℕ, suc, _*_}
 use lib.Dec.{T, eqb}
 use lib.IntN.{ℤ, pos, negℤ}

@@ -1,18 +1,15 @@
 -- The fields of a record searched part by part: the ten parameters, the sixteen subframe indices, SP, SY.
 -- Assumes nothing.
-use mathlib.Core.Path.{_≡_, _∙_, sym, refl, ap, subst}
-use mathlib.Core.Bool.{Bool, true, false}
-use mathlib.Core.List.{List}
+use mathlib.Core.Path.{_≡_, _∙_, sym, ap}
 use Prim.Native.Nat.{ℕ, _+_, _-_, _^_, _<_, _≤_}
 use native.Mathlib.Omega.{arith}
 use native.Mathlib.Nat.{zero-add}
 use borrow.Author.Tests.{le-leb, lt-leb}
-use lib.Dec.{leb, eqb}
+use lib.Dec.{leb}
 use lib.ListN.{length, getD, take, drop}
 use lib.Seq.{getD-take, getD-drop}
-use Rattle.laws.specs.Lowest.{lowest}
 use Rattle.laws.proofs.Lowest.{NoneUpTo, none-yet, none-more, none-found, none-at-all, none-part, found-part}
-use Rattle.record.specs.Fields.{widths, over, overAt, tooLarge, tooLong, indexOf, widthOf}
+use Rattle.record.specs.Fields.{widths, over, overAt, tooLarge, tooLong}
 use Rattle.record.specs.declared.Record.{Record}
 
 -- the ten parameters

@@ -1,6 +1,6 @@
 -- `frame::byte_at` meets its contract. The loop's invariant: the bits passed are shifted in, the last of them lowest.
 -- Assumes nothing.
-use Prim.Native.Nat.{ℕ, _-_, _*_, _%_, _/_, _+_, _<_}
+use Prim.Native.Nat.{_-_, _+_, _<_}
 use native.Mathlib.Omega.{arith}
 use borrow.Author.Needs.{needs}
 use mathlib.Core.Path.{_∙_, ap}
@@ -10,8 +10,6 @@ use Rattle.frame.specs.Frame.{sent}
 use Rattle.frame.proofs.Packed.{Shifted, shifted-none, shifted-more, shifted-all, shifted-byte, shifted-room, sent-next, sent-field, sent-small}
 use Rattle.frame.proofs.byte_at.Statement.{statement}
 use Rattle.frame.proofs.byte_at.Tie as tie
-use Rattle.frame.proofs.byte_at.Reads as reads
-use Rattle.frame.proofs.byte_at.Lts as lts
 
 abbrev Inv-loop : tie.InvT-loop
 Inv-loop fields table from x₀ q₀ x q = Shifted (sent (λ f. getD fields f 0)) (sent-small (λ f. getD fields f 0)) from q x

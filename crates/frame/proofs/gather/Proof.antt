@@ -1,15 +1,12 @@
 -- `frame::gather` meets its contract. Both loops' invariant: each field holds what the places passed give it.
 -- Assumes nothing.
-use Prim.Native.Nat.{ℕ, _+_, _-_, _*_, _≤_}
+use Prim.Native.Nat.{_+_, _-_, _*_, _≤_}
 use native.Mathlib.Omega.{arith}
 use borrow.Author.Needs.{needs}
 use Rattle.frame.specs.Frame.{bitAt}
 use Rattle.frame.proofs.Gathered.{Gathered, bitAt-small, gathered-none, gathered-all, turn-in, turn-field-in, turn-room-in, byte-begun, byte-done}
 use Rattle.frame.proofs.gather.Statement.{statement}
 use Rattle.frame.proofs.gather.Tie as tie
-use Rattle.frame.proofs.gather.Reads as reads
-use Rattle.frame.proofs.gather.Lts as lts
-use Rattle.frame.proofs.table.Reads as table-reads
 
 abbrev Inv-loop2 : tie.InvT-loop2
 Inv-loop2 frame table fields₀ k byte from q₀ fields q = Gathered (bitAt frame) (bitAt-small frame) (8 * k + q) fields × (q ≤ 8)

@@ -6,10 +6,6 @@ use Rattle.frame.specs.Answers.{recordMark}
 use borrow.Author.Needs.{needs}
 use Rattle.frame.proofs.mark_of.Statement.{statement}
 use Rattle.frame.proofs.mark_of.Tie as tie
-use Rattle.frame.proofs.mark_of.Reads as reads
-use Rattle.frame.proofs.mark_of.Lts as lts
-use Rattle.lsp.proofs.hertz.Reads as hertz-reads
-use Rattle.lsp.proofs.order_mark.Reads as order-mark-reads
 
 -- src/lib.rt:265:21
 hertz-requires : tie.Need-hertz-requires

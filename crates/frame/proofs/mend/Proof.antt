@@ -5,9 +5,6 @@ use Rattle.frame.proofs.Number.{mended-none, mended-one, mended-field}
 use borrow.Author.Needs.{needs}
 use Rattle.frame.proofs.mend.Statement.{statement}
 use Rattle.frame.proofs.mend.Tie as tie
-use Rattle.frame.proofs.mend.Reads as reads
-use Rattle.frame.proofs.mend.Lts as lts
-use Rattle.frame.proofs.guarded.Reads as guarded-reads
 
 -- src/lib.rt:244:9
 returns : tie.Need-returns

@@ -1,14 +1,11 @@
 -- `frame::number_of` meets its contract. The loop's invariant: the four sums over the guarded bits passed.
 -- Assumes nothing.
-use Prim.Native.Nat.{ℕ, _-_, _*_, _%_, _/_, _+_}
+use Prim.Native.Nat.{_-_}
 use native.Mathlib.Omega.{arith}
 use borrow.Author.Needs.{needs}
 use Rattle.frame.proofs.Number.{Summed, summed-none, summed-more, summed-all, small-zero, small-one, small-two, small-three, next-guarded, next-field, product-fits, sum-fits}
 use Rattle.frame.proofs.number_of.Statement.{statement}
 use Rattle.frame.proofs.number_of.Tie as tie
-use Rattle.frame.proofs.number_of.Reads as reads
-use Rattle.frame.proofs.number_of.Lts as lts
-use Rattle.frame.proofs.guarded.Reads as guarded-reads
 
 abbrev Inv-loop : tie.InvT-loop
 Inv-loop fields guarded zero₀ one₀ two₀ three₀ n₀ zero one two three n = Summed fields n zero one two three

@@ -1,18 +1,13 @@
 -- `frame::pack` meets its contract. The loop's invariant: the bytes passed hold their eight bits.
 -- Assumes nothing.
-use Prim.Native.Nat.{ℕ, _-_, _*_, _+_}
-use native.Mathlib.Omega.{arith}
+use Prim.Native.Nat.{_-_, _*_, _+_}
 use borrow.Author.Needs.{needs}
-use lib.ListN.{length, getD}
+use lib.ListN.{getD}
 use Rattle.laws.specs.Total.{fromBits}
-use Rattle.laws.proofs.Filled.{Filled, filled-none, filled-more, filled-done}
+use Rattle.laws.proofs.Filled.{Filled, filled-more, filled-done}
 use Rattle.frame.specs.Frame.{sent, packed}
 use Rattle.frame.proofs.pack.Statement.{statement}
 use Rattle.frame.proofs.pack.Tie as tie
-use Rattle.frame.proofs.pack.Reads as reads
-use Rattle.frame.proofs.pack.Lts as lts
-use Rattle.frame.proofs.byte_at.Reads as byte-at-reads
-use Rattle.frame.proofs.table.Reads as table-reads
 
 abbrev Inv-loop : tie.InvT-loop
 Inv-loop frame₀ fields table k₀ frame k = Filled 0 (λ k. fromBits (λ i. sent (λ f. getD fields f 0) (8 * k + 8 - i)) 8) 18 k frame

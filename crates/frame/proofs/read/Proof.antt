@@ -6,13 +6,6 @@ use Rattle.frame.proofs.Answered.{read-refused, read-whole, number-fits
 use borrow.Author.Needs.{needs}
 use Rattle.frame.proofs.read.Statement.{statement}
 use Rattle.frame.proofs.read.Tie as tie
-use Rattle.frame.proofs.read.Reads as reads
-use Rattle.frame.proofs.read.Lts as lts
-use Rattle.frame.proofs.gather.Reads as gather-reads
-use Rattle.frame.proofs.mark_of.Reads as mark-of-reads
-use Rattle.frame.proofs.mend.Reads as mend-reads
-use Rattle.frame.proofs.number_of.Reads as number-of-reads
-use Rattle.frame.proofs.to_record.Reads as to-record-reads
 
 -- src/lib.rt:211:9
 returns : tie.Need-returns

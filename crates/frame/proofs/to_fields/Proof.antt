@@ -4,8 +4,6 @@ use Rattle.frame.specs.Steps.{fieldsOf}
 use borrow.Author.Needs.{needs}
 use Rattle.frame.proofs.to_fields.Statement.{statement}
 use Rattle.frame.proofs.to_fields.Tie as tie
-use Rattle.frame.proofs.to_fields.Reads as reads
-use Rattle.frame.proofs.to_fields.Lts as lts
 
 -- src/lib.rt:276:12
 array-read-t6 : tie.Need-array-read-t6

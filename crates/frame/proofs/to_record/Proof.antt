@@ -3,8 +3,6 @@ use Rattle.laws.specs.Tabulate.{tabulateFrom}
 use borrow.Author.Needs.{needs}
 use Rattle.frame.proofs.to_record.Statement.{statement}
 use Rattle.frame.proofs.to_record.Tie as tie
-use Rattle.frame.proofs.to_record.Reads as reads
-use Rattle.frame.proofs.to_record.Lts as lts
 
 -- src/lib.rt:260:15
 array-read-t5 : tie.Need-array-read-t5

@@ -7,13 +7,6 @@ use Rattle.frame.proofs.Answered.{wrong-length, too-large, falling, exp
 use borrow.Author.Needs.{needs}
 use Rattle.frame.proofs.write.Statement.{statement}
 use Rattle.frame.proofs.write.Tie as tie
-use Rattle.frame.proofs.write.Reads as reads
-use Rattle.frame.proofs.write.Lts as lts
-use Rattle.frame.proofs.mark_of.Reads as mark-of-reads
-use Rattle.frame.proofs.number_of.Reads as number-of-reads
-use Rattle.frame.proofs.pack.Reads as pack-reads
-use Rattle.frame.proofs.to_fields.Reads as to-fields-reads
-use Rattle.record.proofs.Record.too_large.Reads as too-large-reads
 
 -- src/lib.rt:241:9
 returns : tie.Need-returns

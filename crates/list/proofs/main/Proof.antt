@@ -4,11 +4,6 @@ use mathlib.Core.Path.{sym}
 use borrow.Author.Needs.{needs}
 use Rattle.list.proofs.main.Statement.{statement}
 use Rattle.list.proofs.main.Tie as tie
-use Rattle.list.proofs.main.Reads as reads
-use Rattle.list.proofs.main.Lts as lts
-use Rattle.io.proofs.write_all.Reads as write-all-reads
-use Rattle.list.proofs.read_all.Reads as read-all-reads
-use Rattle.listing.proofs.list.Reads as list-reads
 
 -- src/main.rt:39:20
 slice-aggregate-read-all : tie.Need-slice-aggregate-read-all

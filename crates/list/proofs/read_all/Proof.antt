@@ -1,14 +1,9 @@
 use borrow.Author.Needs.{needs}
 use lib.ListN.{length}
-use native.Mathlib.Omega.{arith}
 use Prim.Native.Nat.{_-_, _≤_}
 use mathlib.Core.Path.{_≡_}
 use Rattle.list.proofs.read_all.Statement.{statement}
 use Rattle.list.proofs.read_all.Tie as tie
-use Rattle.list.proofs.read_all.Reads as reads
-use Rattle.list.proofs.read_all.Lts as lts
-use Rattle.io.proofs.count.Reads as count-reads
-use Rattle.libc.proofs.read.Reads as read-reads
 
 abbrev Inv-loop : tie.InvT-loop
 Inv-loop buf₀ done₀ buf done = (done ≤ length buf) × (length buf ≡ length buf₀)

@@ -1,15 +1,8 @@
 use Rattle.listing.proofs.Listings.{wrong-length, listed-refused, listed-sound, head-within}
-use native.Mathlib.Omega.{arith}
 use mathlib.Core.Path.{_∙_, sym}
 use borrow.Author.Needs.{needs}
 use Rattle.listing.proofs.list.Statement.{statement}
 use Rattle.listing.proofs.list.Tie as tie
-use Rattle.listing.proofs.list.Reads as reads
-use Rattle.listing.proofs.list.Lts as lts
-use Rattle.listing.proofs.put_frames.Reads as put-frames-reads
-use Rattle.listing.proofs.put_head.Reads as put-head-reads
-use Rattle.listing.proofs.put_refused.Reads as put-refused-reads
-use Rattle.blocks.proofs.walk_through.Reads as walk-through-reads
 
 -- src/lib.rt:36:9
 returns : tie.Need-returns

@@ -2,10 +2,6 @@ use Rattle.listing.proofs.Lines.{delays-put}
 use borrow.Author.Needs.{needs}
 use Rattle.listing.proofs.put_delays.Statement.{statement}
 use Rattle.listing.proofs.put_delays.Tie as tie
-use Rattle.listing.proofs.put_delays.Reads as reads
-use Rattle.listing.proofs.put_delays.Lts as lts
-use Rattle.listing.proofs.put_field.Reads as put-field-reads
-use Rattle.values.proofs.delays_of.Reads as delays-of-reads
 
 -- src/lib.rt:123:13
 delays-of-requires : tie.Need-delays-of-requires

@@ -1,7 +1,7 @@
 use Rattle.listing.proofs.Frames.{Listing, listing-start, listing-done, taken-fits, listing-on}
 use Rattle.listing.proofs.Puts.{put-length}
-use Rattle.blocks.proofs.Frames.{Within, found-within}
-use Rattle.recording.proofs.Counting.{Counting, counting-on}
+use Rattle.blocks.proofs.Frames.{found-within}
+use Rattle.recording.proofs.Counting.{counting-on}
 use borrow.Author.Needs.{needs}
 use lib.ListN.{length}
 use native.Mathlib.Omega.{arith}
@@ -9,14 +9,6 @@ use Prim.Native.Nat.{_-_}
 use mathlib.Core.Path.{_∙_, sym, refl}
 use Rattle.listing.proofs.put_frames.Statement.{statement}
 use Rattle.listing.proofs.put_frames.Tie as tie
-use Rattle.listing.proofs.put_frames.Reads as reads
-use Rattle.listing.proofs.put_frames.Lts as lts
-use Rattle.frame.proofs.read.Reads as read-reads
-use Rattle.listing.proofs.put_last.Reads as put-last-reads
-use Rattle.listing.proofs.put_line.Reads as put-line-reads
-use Rattle.recording.proofs.break_by.Reads as break-by-reads
-use Rattle.blocks.proofs.find.Reads as find-reads
-use Rattle.recording.proofs.repair_by.Reads as repair-by-reads
 
 abbrev Inv-loop : tie.InvT-loop
 Inv-loop out₀ start s end₀ at₀ left₀ count₀ repaired₀ breaks₀ out end at left count repaired breaks = Listing s out₀ start out end at left count repaired breaks

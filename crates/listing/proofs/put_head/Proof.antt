@@ -2,10 +2,6 @@ use Rattle.listing.proofs.Lines.{head-put}
 use borrow.Author.Needs.{needs}
 use Rattle.listing.proofs.put_head.Statement.{statement}
 use Rattle.listing.proofs.put_head.Tie as tie
-use Rattle.listing.proofs.put_head.Reads as reads
-use Rattle.listing.proofs.put_head.Lts as lts
-use Rattle.listing.proofs.put_told.Reads as put-told-reads
-use Rattle.text.proofs.put_byte.Reads as put-byte-reads
 
 -- src/lib.rt:56:33
 slice-aggregate-put-told : tie.Need-slice-aggregate-put-told

@@ -2,10 +2,6 @@ use Rattle.listing.proofs.Lines.{last-put}
 use borrow.Author.Needs.{needs}
 use Rattle.listing.proofs.put_last.Statement.{statement}
 use Rattle.listing.proofs.put_last.Tie as tie
-use Rattle.listing.proofs.put_last.Reads as reads
-use Rattle.listing.proofs.put_last.Lts as lts
-use Rattle.listing.proofs.put_told.Reads as put-told-reads
-use Rattle.text.proofs.put_byte.Reads as put-byte-reads
 
 -- src/lib.rt:144:35
 slice-aggregate-put-told : tie.Need-slice-aggregate-put-told

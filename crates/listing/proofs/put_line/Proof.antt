@@ -2,13 +2,6 @@ use Rattle.listing.proofs.Lines.{refused-line-put, heard-line-put}
 use borrow.Author.Needs.{needs}
 use Rattle.listing.proofs.put_line.Statement.{statement}
 use Rattle.listing.proofs.put_line.Tie as tie
-use Rattle.listing.proofs.put_line.Reads as reads
-use Rattle.listing.proofs.put_line.Lts as lts
-use Rattle.listing.proofs.put_delays.Reads as put-delays-reads
-use Rattle.listing.proofs.put_field.Reads as put-field-reads
-use Rattle.text.proofs.put_byte.Reads as put-byte-reads
-use Rattle.text.proofs.put_number.Reads as put-number-reads
-use Rattle.text.proofs.put_word.Reads as put-word-reads
 
 -- src/lib.rt:107:9
 put-number-requires : tie.Need-put-number-requires

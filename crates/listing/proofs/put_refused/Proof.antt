@@ -2,12 +2,6 @@ use Rattle.listing.proofs.Lines.{refused-put}
 use borrow.Author.Needs.{needs}
 use Rattle.listing.proofs.put_refused.Statement.{statement}
 use Rattle.listing.proofs.put_refused.Tie as tie
-use Rattle.listing.proofs.put_refused.Reads as reads
-use Rattle.listing.proofs.put_refused.Lts as lts
-use Rattle.listing.proofs.place_of.Reads as place-of-reads
-use Rattle.listing.proofs.put_told.Reads as put-told-reads
-use Rattle.listing.proofs.refusal.Reads as refusal-reads
-use Rattle.text.proofs.put_byte.Reads as put-byte-reads
 
 -- src/lib.rt:154:36
 slice-aggregate-put-told : tie.Need-slice-aggregate-put-told

@@ -2,10 +2,6 @@ use Rattle.text.proofs.Laid.{put-then}
 use borrow.Author.Needs.{needs}
 use Rattle.listing.proofs.put_told.Statement.{statement}
 use Rattle.listing.proofs.put_told.Tie as tie
-use Rattle.listing.proofs.put_told.Reads as reads
-use Rattle.listing.proofs.put_told.Lts as lts
-use Rattle.text.proofs.put_number.Reads as put-number-reads
-use Rattle.text.proofs.put_word.Reads as put-word-reads
 
 -- src/lib.rt:67:9
 put-word-requires : tie.Need-put-word-requires

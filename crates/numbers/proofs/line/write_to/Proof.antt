@@ -1,6 +1,6 @@
 -- `numbers::line::write_to` is safe: the position after the newline lies within the buffer, whose length stays.
 -- Assumes nothing.
-use mathlib.Core.Path.{_≡_, _∙_, ap}
+use mathlib.Core.Path.{_∙_, ap}
 use native.Mathlib.Omega.{arith}
 use borrow.Author.Needs.{needs}
 use lib.ListN.{length, length-take}
