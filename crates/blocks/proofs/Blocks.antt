@@ -8,8 +8,9 @@ use native.Mathlib.Omega.{arith}
 use borrow.Author.Tests.{le-leb, lt-leb, lt-ltb, le-ltb, eq-eqb, ne-eqb, leb-false, ltb-false, eqb-true, ltb-true}
 use lib.Dec.{eqb, leb, ltb}
 use lib.ListN.{length, getD}
+use Rattle.laws.specs.Bytes.{pairAt, wordAt}
 use Rattle.laws.specs.Table.{both}
-use Rattle.blocks.specs.Blocks.{pairAt, wordAt, sizeAt, kindAt, ofKind, blockAt}
+use Rattle.blocks.specs.Blocks.{sizeAt, kindAt, ofKind, blockAt}
 use Rattle.blocks.specs.declared.Cause.the-variants.{HeaderCut, PastEnd, WrongSize, UnknownKind, EndMissing}
 use Rattle.blocks.specs.declared.Block.{Block}
 use Rattle.blocks.specs.declared.Block.the-variants.{Head, Voice, End, Broken}

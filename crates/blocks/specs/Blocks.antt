@@ -1,20 +1,14 @@
 -- Blocks (document 01, "Recordings"): a payload length (4 bytes, little-endian), a kind (2 bytes), the payload.
 use mathlib.Core.Bool.{cond}
 use mathlib.Core.List.{List}
-use Prim.Native.Nat.{ℕ, _+_, _-_, _*_, _%_}
+use Prim.Native.Nat.{ℕ, _+_, _-_, _%_}
 use lib.Dec.{eqb, leb, ltb}
-use lib.ListN.{length, getD, take, drop}
+use lib.ListN.{length, take, drop}
+use Rattle.laws.specs.Bytes.{pairAt, wordAt}
 use Rattle.laws.specs.Table.{both}
 use Rattle.blocks.specs.declared.Cause.the-variants.{HeaderCut, PastEnd, WrongSize, UnknownKind, EndMissing}
 use Rattle.blocks.specs.declared.Block.{Block}
 use Rattle.blocks.specs.declared.Block.the-variants.{Head, Voice, End, Broken}
-
--- two and four bytes from a place on as a number, the lowest byte first
-unfoldable pub pairAt : List ℕ → ℕ → ℕ
-pairAt s at = getD s at 0 + 256 * getD s (at + 1) 0
-
-unfoldable pub wordAt : List ℕ → ℕ → ℕ
-wordAt s at = getD s at 0 + 256 * (getD s (at + 1) 0 + 256 * (getD s (at + 2) 0 + 256 * getD s (at + 3) 0))
 
 -- n bytes from a place on
 abbrev pub part : List ℕ → ℕ → ℕ → List ℕ

@@ -13,6 +13,7 @@ use lib.Dec.{eqb}
 use lib.IntN.{ℤ, pos}
 use lib.ListN.{length, getD}
 use lib.Seq.{ext-getD}
+use Rattle.laws.specs.Bytes.{pairAt}
 use Rattle.laws.proofs.Tabulate.{length-tabulate, getD-tabulate}
 use Rattle.record.specs.Fields.{indexOf}
 use Rattle.record.specs.declared.Record.{Record}
@@ -23,7 +24,7 @@ use Rattle.frame.specs.declared.Verdict.{Verdict}
 use Rattle.frame.specs.declared.Verdict.the-variants as Verdict
 use Rattle.frame.specs.declared.Written.{Written}
 use Rattle.frame.specs.declared.Written.the-variants as Written
-use Rattle.gateway.specs.Pairs.{pairAt, byteOf, bytesOf, indexIn, recordIn}
+use Rattle.gateway.specs.Pairs.{byteOf, bytesOf, indexIn, recordIn}
 use Rattle.gateway.specs.Results.{refused, readAnswer, readResult, writeResult}
 use Rattle.gateway.proofs.Pairs.{low-byte, high-byte}
 
@@ -37,6 +38,7 @@ byte-at r i h = getD-tabulate (byteOf r) 0 56 i h
 
 -- the bytes of a record hold its indices
 pub index-of-bytes : (r : Record) (f : ℕ) → 1 ≤ f → f ≤ 28 → indexIn (bytesOf r) f ≡ indexOf r f
+unfolding pairAt
 index-of-bytes r f a b =
     let low : getD (bytesOf r) (2 * (f - 1)) 0 ≡ indexOf r (f - 1 + 1) % 256 = byte-at r (2 * (f - 1)) (omega arith) ∙ low-byte r (f - 1) in
     let high : getD (bytesOf r) (2 * (f - 1) + 1) 0 ≡ indexOf r (f - 1 + 1) / 256 = byte-at r (2 * (f - 1) + 1) (omega arith) ∙ high-byte r (f - 1) in
@@ -58,6 +60,7 @@ index-in-record s f a b = index-given (indexIn s) f a b
 
 -- every 56 bytes are a record's
 pub bytes-of-record : (s : List ℕ) → length s ≡ 56 → ((i : ℕ) → i < 56 → getD s i 0 < 256) → bytesOf (recordIn s) ≡ s
+unfolding pairAt
 bytes-of-record s long bytes =
     ext-getD 0 (bytesOf (recordIn s)) s (length-bytes (recordIn s) ∙ sym long)
     (λ i h. let l : i < 56 = subst (λ (n : ℕ). i < n) (length-bytes (recordIn s)) h in

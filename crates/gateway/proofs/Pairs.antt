@@ -6,12 +6,13 @@ use Prim.Native.Nat.{ℕ, _+_, _-_, _*_, _/_, _%_, _<_, _≤_}
 use native.Mathlib.Omega.{arith}
 use borrow.Author.Tests.{eq-eqb, ne-eqb}
 use lib.ListN.{getD, set}
+use Rattle.laws.specs.Bytes.{pairAt}
 use Rattle.laws.specs.Tabulate.{tabulate}
 use Rattle.laws.proofs.Filled.{Filled, filled-more, filled-done}
 use Rattle.record.specs.Fields.{indexOf}
 use Rattle.record.specs.declared.Record.{Record}
 use Rattle.record.proofs.Laws.{index-parameter, index-subframe}
-use Rattle.gateway.specs.Pairs.{pairAt, withPair, byteOf, bytesOf, indexIn, recordIn}
+use Rattle.gateway.specs.Pairs.{withPair, byteOf, bytesOf, indexIn, recordIn}
 
 module _ (r : Record) where
   -- the two bytes of a pair

@@ -3,15 +3,13 @@ use mathlib.Core.Bool.{cond}
 use mathlib.Core.List.{List}
 use Prim.Native.Nat.{ℕ, _+_, _-_, _*_, _/_, _%_}
 use lib.Dec.{eqb}
-use lib.ListN.{getD, set}
+use lib.ListN.{set}
+use Rattle.laws.specs.Bytes.{pairAt}
 use Rattle.laws.specs.Tabulate.{tabulate}
 use Rattle.record.specs.Fields.{indexOf}
 use Rattle.record.specs.declared.Record.{Record}
 
--- the index in the two bytes from i on, the lower half first; and a list with an index put there
-abbrev pub pairAt : List ℕ → ℕ → ℕ
-pairAt s i = getD s i 0 + 256 * getD s (i + 1) 0
-
+-- a list with an index put into the two bytes from i on, the lower half first
 abbrev pub withPair : List ℕ → ℕ → ℕ → List ℕ
 withPair s i x = set (set s i (x % 256)) (i + 1) (x / 256)
 

@@ -6,7 +6,8 @@ use record::Record;
 ghost use mathlib.Core.Path.{_≡_};
 ghost use Prim.Native.Nat.{_+_, _<_};
 ghost use lib.ListN.{length};
-ghost use Rattle.gateway.specs.Pairs.{pairAt, withPair, bytesOf, recordIn};
+ghost use Rattle.laws.specs.Bytes.{pairAt};
+ghost use Rattle.gateway.specs.Pairs.{withPair, bytesOf, recordIn};
 ghost use Rattle.gateway.specs.Results.{readResult, recordLeft, writeResult, frameLeftBy};
 
 // Reads a frame into a record: 16 times the order mark plus the correction number, or a refusal.

@@ -4,3 +4,4 @@ pub mod Tabulate
 pub mod Total
 pub mod Place
 pub mod Turns
+pub mod Bytes

@@ -9,6 +9,7 @@ use native.Mathlib.Decide.{ℕ-discrete}
 use borrow.Author.Tests.{ltb-false}
 use lib.Dec.{eqb, leb, ltb}
 use lib.ListN.{length, getD, length-append}
+use Rattle.laws.specs.Bytes.{wordAt}
 use Rattle.laws.specs.Table.{both}
 use Rattle.laws.specs.Turns.{turns}
 use Rattle.record.specs.declared.Record.{Record}
@@ -17,7 +18,7 @@ use Rattle.frame.specs.Answers.{readingOf}
 use Rattle.frame.specs.declared.Reading.{Reading}
 use Rattle.values.specs.Values.{delaysOf}
 use Rattle.values.proofs.Laws.{delays-within}
-use Rattle.blocks.specs.Blocks.{wordAt, sizeAt, kindAt, blockAt}
+use Rattle.blocks.specs.Blocks.{sizeAt, kindAt, blockAt}
 use Rattle.blocks.specs.Walk.{longest, met, stepOf, atStart, onward, walkFrom, walkedOf}
 use Rattle.blocks.specs.Frames.{afterHead, foundAt, framesOf, framesFrom}
 use Rattle.recording.specs.Judged.{repairedIn, breaksFrom}

@@ -9,7 +9,8 @@ use native.Mathlib.Nat.{zero-add, add-zero}
 use native.Mathlib.Decide.{ℕ-discrete}
 use lib.ListN.{length, getD, take, drop, length-append, length-drop, take-append-drop, drop-of-length-le}
 use lib.Seq.{getD-append-add, drop-append-add, take-append-seam, drop-cons, drop-drop, take-add, length-take-le}
-use Rattle.blocks.specs.Blocks.{pairAt, wordAt, blockAt, part}
+use Rattle.laws.specs.Bytes.{pairAt, wordAt}
+use Rattle.blocks.specs.Blocks.{blockAt, part}
 use Rattle.blocks.specs.Walk.{pastHead, pastVoice, atStart, walkFrom, walkedOf}
 use Rattle.blocks.specs.Frames.{voiceSize, voicesFrom, payloadsOf, voiceBlockOf, framesIn, framesOf}
 use Rattle.recording.specs.Judged.{judgedBy, judgedOf}

@@ -9,8 +9,9 @@ use native.Mathlib.Decide.{ℕ-discrete, decLt, decLe}
 use borrow.Author.Tests.{eq-eqb, ne-eqb, lt-ltb, le-ltb}
 use lib.Dec.{eqb, ltb}
 use lib.ListN.{length, getD}
+use Rattle.laws.specs.Bytes.{wordAt}
 use Rattle.laws.specs.Table.{both}
-use Rattle.blocks.specs.Blocks.{wordAt, sizeAt, kindAt, blockAt}
+use Rattle.blocks.specs.Blocks.{sizeAt, kindAt, blockAt}
 use Rattle.blocks.specs.Walk.{longest, refuse, pastHead, pastVoice, stepOf, atStart, walkFrom, walkedOf}
 use Rattle.blocks.specs.Frames.{framesOf}
 use Rattle.recording.specs.Judged.{judgedBy, judgedOf}

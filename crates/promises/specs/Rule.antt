@@ -7,8 +7,9 @@ use mathlib.Core.Logic.{_↔_}
 use Prim.Native.Nat.{ℕ, _+_, _%_, _<_, _≤_}
 use lib.Dec.{eqb, ltb}
 use lib.ListN.{length}
+use Rattle.laws.specs.Bytes.{wordAt}
 use Rattle.laws.specs.Table.{both}
-use Rattle.blocks.specs.Blocks.{wordAt, sizeAt, kindAt}
+use Rattle.blocks.specs.Blocks.{sizeAt, kindAt}
 use Rattle.blocks.specs.Walk.{longest, pastHead, pastVoice, atStart}
 use Rattle.recording.specs.Judged.{judgedOf}
 use Rattle.blocks.specs.Refusals.{refusalOf}

@@ -3,13 +3,13 @@ use mathlib.Core.Bool.{Bool, true, false, cond}
 use mathlib.Core.List.{List, [], _∷_, map}
 use Prim.Native.Nat.{ℕ, suc, _*_}
 use lib.Dec.{T, eqb}
-use lib.IntN.{ℤ, pos, negℤ}
+use lib.IntN.{ℤ, pos}
 use lib.ListN.{getD}
 use Rattle.laws.specs.Table.{both, every}
 use Rattle.laws.specs.Tabulate.{tabulate}
 use Rattle.laws.proofs.Signed.{same}
 use Rattle.record.specs.Fields.{indexOf}
-use Rattle.gains.specs.Tables.{cgTable, pgTable}
+use Rattle.gains.specs.Tables.{minus, cgTable, pgTable}
 use Rattle.gains.specs.Nearest.{nearestOf}
 use Rattle.delays.specs.Table.{byteOf, rankWith}
 use Rattle.delays.specs.Codes.{heardOf}
@@ -27,10 +27,7 @@ pub record Worked : Type 0 where
   pub given : List ℤ
   pub printed : List ℤ
 
--- a number with a minus sign, and lists of plain numbers
-abbrev pub minus : ℕ → ℤ
-minus n = negℤ (pos n)
-
+-- lists of plain numbers
 abbrev pub plain : List ℕ → List ℤ
 plain = map pos
 

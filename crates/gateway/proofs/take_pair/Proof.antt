@@ -5,6 +5,7 @@ use Prim.Native.Nat.{_+_, _<_}
 use native.Mathlib.Omega.{arith}
 use lib.ListN.{getD}
 use borrow.Author.Needs.{needs}
+use Rattle.laws.specs.Bytes.{pairAt}
 use Rattle.gateway.proofs.take_pair.Statement.{statement}
 use Rattle.gateway.proofs.take_pair.Tie as tie
 
@@ -28,6 +29,7 @@ add-result : tie.Need-add-result
 add-result c = omega (arith, low c, high c)
 
 returns : tie.Need-returns
+unfolding pairAt
 returns c = refl
 
 pub take-pair-spec : {M : Type 1} → statement M
