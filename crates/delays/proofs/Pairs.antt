@@ -12,7 +12,8 @@ use borrow.Author.Tests.{lt-ltb, le-ltb, le-leb, lt-leb}
 use Rattle.laws.specs.Tabulate.{tabulate}
 use Rattle.laws.proofs.Tabulate.{getD-tabulate}
 use Rattle.delays.specs.Table.{delays, bytes, twelfthsOf, byteOf, rankOf, rankWith}
-use Rattle.delays.specs.Codes.{baseOf, firstOf, heardPair, heardOf, listed, inWindow, codedPair, bothInside, unless, pairOf, codedOf}
+use Rattle.delays.specs.Codes.{baseOf, firstOf, heardOf, listed, inWindow, unless, pairOf, codedOf}
+use Rattle.delays.specs.Steps.{heardPair, codedPair, bothInside}
 use Rattle.delays.proofs.Table.{rank-below, byte-below}
 use Rattle.delays.specs.declared.Coded.{Coded}
 use Rattle.delays.specs.declared.Coded.the-variants.{Codes, NotListed, OutsideWindow}

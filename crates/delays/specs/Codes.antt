@@ -8,8 +8,6 @@ use Rattle.laws.specs.Table.{both}
 use Rattle.delays.specs.Table.{twelfthsOf, byteOf, rankOf, rankWith}
 use Rattle.delays.specs.declared.Coded.{Coded}
 use Rattle.delays.specs.declared.Coded.the-variants.{Codes, NotListed, OutsideWindow}
-use Rattle.delays.specs.declared.Pair.{Pair}
-use Rattle.delays.specs.declared.Pair.the-variants.{Inside, FirstNotListed, SecondNotListed, SecondOutside}
 
 -- the lowest rank of the window after a rank: the rank less 31, held between 0 and 192
 abbrev pub baseOf : ℕ → ℕ
@@ -27,10 +25,6 @@ firstOf code = rankOf (code % 256)
 abbrev pub nextOf : ℕ → ℕ → ℕ
 nextOf before code = afterOf (firstOf before) code
 
--- the two delays in twelfths of subframes 1 and 2, or 3 and 4
-abbrev pub heardPair : ℕ → ℕ → List ℕ
-heardPair a b = twelfthsOf (firstOf a) ∷ twelfthsOf (nextOf a b) ∷ []
-
 -- the four delays in twelfths that a record's four indices mean
 unfoldable pub heardOf : List ℕ → List ℕ
 heardOf codes =
@@ -44,17 +38,6 @@ listed delay = ltb (rankWith delay) 256
 -- a rank is in the window of 64 ranks after another
 abbrev pub inWindow : ℕ → ℕ → Bool
 inWindow before rank = both (leb (baseOf before) rank) (leb rank (baseOf before + 63))
-
--- delays of a and b twelfths in subframes 1 and 2, or 3 and 4: the rank of the first and the code of the second, or what is refused
-unfoldable pub codedPair : ℕ → ℕ → Pair
-codedPair a b =
-    cond (listed a)
-    (cond (listed b)
-    (cond (inWindow (rankWith a) (rankWith b)) (Inside (rankWith a) (rankWith b - baseOf (rankWith a))) SecondOutside) SecondNotListed) FirstNotListed
-
--- the codes of two pairs inside their windows, from the ranks of the first and third delay and the codes of the second and fourth
-abbrev pub bothInside : ℕ → ℕ → ℕ → ℕ → Coded
-bothInside r s u v = Codes (byteOf r) s (byteOf u) v
 
 -- go on where a test holds, or else answer the refusal
 abbrev pub unless : Bool → Coded → Coded → Coded

@@ -3,7 +3,8 @@
 // A table is taken once in a call, by one of the three functions that answer a table, and lent on.
 ghost use mathlib.Core.Path.{_≡_};
 ghost use Rattle.delays.specs.Table.{delays, bytes, rankOf, rankWith};
-ghost use Rattle.delays.specs.Codes.{baseOf, heardPair, heardOf, codedPair, bothInside, codedOf};
+ghost use Rattle.delays.specs.Codes.{baseOf, heardOf, codedOf};
+ghost use Rattle.delays.specs.Steps.{heardPair, codedPair, bothInside};
 ghost use Rattle.laws.specs.Tabulate.{tabulate};
 
 mod tables;

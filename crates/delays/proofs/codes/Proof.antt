@@ -5,7 +5,7 @@ use mathlib.Core.List.{List}
 use Prim.Native.Nat.{ℕ}
 use borrow.Author.Needs.{needs}
 use lib.ListN.{getD}
-use Rattle.delays.specs.Codes.{codedPair}
+use Rattle.delays.specs.Steps.{codedPair}
 use Rattle.delays.specs.declared.Pair.the-variants.{Inside}
 use Rattle.delays.proofs.Pairs.{by-first, by-second}
 use Rattle.delays.proofs.codes.Statement.{statement}
