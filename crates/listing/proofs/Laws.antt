@@ -5,11 +5,12 @@ use mathlib.Core.Bool.{Bool, true, false, cond}
 use mathlib.Core.List.{List, _++_}
 use Prim.Native.Nat.{ℕ, _≤_}
 use native.Mathlib.Omega.{arith}
-use borrow.Author.Tests.{eq-eqb, eqb-true}
+use borrow.Author.Tests.{eq-eqb, ne-eqb, eqb-true}
 use lib.Dec.{eqb}
 use lib.ListN.{length, take, drop, length-append}
 use lib.Seq.{take-at}
-use Rattle.listing.specs.Listing.{listingOf, room, listedOf, listingLeft}
+use Rattle.listing.specs.Listing.{listingOf, room, listedOf, listingLeft, refusalOf}
+use Rattle.listing.specs.Promised.{ListingStands, RefusedListingStays}
 use Rattle.listing.specs.declared.Listed.the-variants.{Text, WrongLength}
 
 -- a text is answered only for a buffer that has room for it, and its length is the listing's
@@ -27,12 +28,26 @@ unfolding listingLeft
 text-left s o e = rw (eq-eqb (length o) room e)
 
 -- so the text answered is the first bytes of the buffer
-pub text-first : (s o : List ℕ) (m : ℕ) → listedOf s (length o) ≡ Text m → take m (listingLeft s o) ≡ listingOf s
-text-first s o m e =
+pub listing-stands : ListingStands
+unfolding ListingStands
+listing-stands s o m e =
     let t = text-answered s (length o) m e in
-    ap (take m) (text-left s o (t .0)) ∙ take-at (listingOf s) (drop (length (listingOf s)) o) m (sym (t .1))
+    (t .1, text-left s o (t .0) ∙ ap (λ (n : ℕ). listingOf s ++ drop n o) (sym (t .1)))
 
--- and they are within it
+-- a buffer of any other length is refused, and stays
+pub refused-listing-stays : RefusedListingStays
+unfolding RefusedListingStays listedOf listingLeft
+refused-listing-stays s o = ((told, refused), λ w. rw (ne-eqb (length o) room w))
+  where
+    told : refusalOf (cond (eqb (length o) room) (Text (length (listingOf s))) WrongLength) ≡ 1 → length o ≡ room → ⊥
+    told e long =
+        let z : refusalOf (cond (eqb (length o) room) (Text (length (listingOf s))) WrongLength) ≡ 0 = rw (eq-eqb (length o) room long) in
+        omega (arith, e, z)
+
+    refused : (length o ≡ room → ⊥) → refusalOf (cond (eqb (length o) room) (Text (length (listingOf s))) WrongLength) ≡ 1
+    refused w = rw (ne-eqb (length o) room w)
+
+-- the text answered is within the buffer
 pub text-within : (s o o′ : List ℕ) (m : ℕ) → Text m ≡ listedOf s (length o) → o′ ≡ listingLeft s o → m ≤ length o′
 text-within s o o′ m e l =
     let t = text-answered s (length o) m (sym e) in

@@ -1,9 +1,24 @@
 -- What holds of every listing.
-use mathlib.Core.List.{List}
+use mathlib.Core.Path.{_≡_}
+use mathlib.Core.List.{List, _++_}
+use mathlib.Core.Logic.{_↔_}
 use Prim.Native.Nat.{ℕ, _<_, _≤_}
-use lib.ListN.{length, getD}
-use Rattle.listing.specs.Listing.{room, listingOf}
+use lib.ListN.{length, getD, drop}
+use Rattle.listing.specs.Listing.{room, listingOf, listedOf, listingLeft, refusalOf}
+use Rattle.listing.specs.declared.Listed.the-variants.{Text}
 
 -- the listing of any bytes fits the buffer, whole
 unfoldable pub Fits : Type 0
 Fits = (s : List ℕ) → ((i : ℕ) → getD s i 0 < 256) → length (listingOf s) ≤ room
+
+-- the text that is answered is the first bytes of the buffer, whole, and what stood after it stays
+unfoldable pub ListingStands : Type 0
+ListingStands =
+    (s o : List ℕ) (m : ℕ) → listedOf s (length o) ≡ Text m
+    → (m ≡ length (listingOf s)) × (listingLeft s o ≡ listingOf s ++ drop m o)
+
+-- a buffer of any other length is refused (1) and stays as it was
+unfoldable pub RefusedListingStays : Type 0
+RefusedListingStays =
+    (s o : List ℕ)
+    → ((refusalOf (listedOf s (length o)) ≡ 1) ↔ (length o ≡ room → ⊥)) × ((length o ≡ room → ⊥) → listingLeft s o ≡ o)

@@ -1,5 +1,7 @@
 -- Every statement under the three demands has its proof.
 -- Assumes nothing.
+use Rattle.listing.proofs.Laws as listing
+use Rattle.listing.proofs.Short as short
 use Rattle.promises.specs.Demands.{DemandOne, DemandTwo, DemandThree}
 use Rattle.promises.proofs.Frames as frames
 use Rattle.promises.proofs.Functions as functions
@@ -33,6 +35,7 @@ demand-one =
       lowest-first = rule.lowest-first;
       refused-has-none = parts.refused-has-none;
       empty-refused = parts.empty-refused;
+      refused-listing-stays = listing.refused-listing-stays;
     }
 
 pub demand-two : DemandTwo
@@ -81,6 +84,8 @@ demand-two =
       nothing-beyond = running.nothing-beyond;
       pass-hears = running.pass-hears;
       so-far-alone = running.so-far-alone;
+      listing-fits = short.listing-fits;
+      listing-stands = listing.listing-stands;
     }
 
 pub demand-three : DemandThree

@@ -1,5 +1,6 @@
 -- The three demands, in the words of the person this is built for, and under each the statements that meet it. A reviewer starts here:
 -- each name below is a statement of the file beside it, and proofs/Demands.antt holds a proof of every one.
+use Rattle.listing.specs.Promised.{Fits, ListingStands, RefusedListingStays}
 use Rattle.promises.specs.Frames.{ReadsBack, SameBits, DamageAlone, OneMended, TwoReported, EveryFrameRead, OneFrame, SixteenFrames}
 use Rattle.promises.specs.Functions.{WriteThenRead, ReadThenWrite, RepairByDamage, OneFlip, TwoFlips, NoTwoFrames}
 use Rattle.promises.specs.Refused.{ReaderRefuses, WriterRefuses, RefusedFrameStays, HearingRefuses, RefusedStateStays, DelaysRefuse, CodeRefuses, RefusedCodeStays, GainRefuses, RefusedReadStays, RefusedWriteStays}
@@ -40,6 +41,7 @@ pub record DemandOne : Type 0 where
   pub lowest-first : LowestFirst
   pub refused-has-none : RefusedHasNone
   pub empty-refused : EmptyRefused
+  pub refused-listing-stays : RefusedListingStays
 
 -- "Reading and writing are those of Federal Standard 1016: the 144 places, the parity, the gains, delays, averaged parameters and 512
 -- ternary codes. A record the writer accepts reads back equal. A frame that is read writes back to the same bits exactly when its parity
@@ -93,6 +95,9 @@ pub record DemandTwo : Type 0 where
   pub nothing-beyond : NothingBeyond
   pub pass-hears : PassHears
   pub so-far-alone : SoFarAlone
+  -- the listing
+  pub listing-fits : Fits
+  pub listing-stands : ListingStands
 
 -- "Take a frame our writer made and flip any set of its bits. The indices then read are the written ones, with exactly those bits
 -- reversed that come out as 1 when the flips alone are read as a frame; the correction number reported is the one for the flips alone. If
