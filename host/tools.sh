@@ -17,3 +17,10 @@ esac
 # the C++ library goes into the program, for what runs it may have none
 cxx_flags='-static-libstdc++ -static-libgcc'
 export CC CXX
+
+# the archive: OATLANTERN_ARCHIVE, a file or the folder that it is in, or the one that rt writes
+archive=${OATLANTERN_ARCHIVE:-$root/target/staticlib}
+[ -d "$archive" ] && archive=$archive/libgateway.a
+need_archive() {
+    [ -f "$archive" ] || { echo "$archive is not there: run \`rt staticlib gateway\` at the repository's root" >&2; exit 1; }
+}

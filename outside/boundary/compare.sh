@@ -4,9 +4,7 @@
 set -eu
 cd "$(dirname "$0")"
 . ../../host/tools.sh
-archive=${OATLANTERN_ARCHIVE:-../../target/staticlib}
-[ -d "$archive" ] && archive=$archive/libgateway.a
-[ -f "$archive" ] || { echo "compare.sh: $archive is not there: run \`rt staticlib gateway\` at the repository's root" >&2; exit 1; }
+need_archive
 tmp=$(mktemp -d)
 trap 'rm -rf "$tmp"' EXIT
 $CC -std=c11 -Wall -Wextra -pedantic -Werror -O2 -I../../include -o "$tmp/answers" answers.c "$archive"

@@ -3,9 +3,7 @@
 set -eu
 cd "$(dirname "$0")"
 . ../../host/tools.sh
-archive=${OATLANTERN_ARCHIVE:-../../target/staticlib}
-[ -d "$archive" ] && archive=$archive/libgateway.a
-[ -f "$archive" ] || { echo "sanitize.sh: $archive is not there: run \`rt staticlib gateway\` at the repository's root" >&2; exit 1; }
+need_archive
 tmp=$(mktemp -d)
 trap 'rm -rf "$tmp"' EXIT
 # the words of $sanitizers are split on purpose

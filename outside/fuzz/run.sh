@@ -2,9 +2,8 @@
 # run.sh [SECONDS]: builds the fuzzer and runs it, ten minutes by default. What it finds is left in ../../target/fuzz.
 set -eu
 cd "$(dirname "$0")"
-archive=${OATLANTERN_ARCHIVE:-../../target/staticlib}
-[ -d "$archive" ] && archive=$archive/libgateway.a
-[ -f "$archive" ] || { echo "run.sh: $archive is not there: run \`rt staticlib gateway\` at the repository's root" >&2; exit 1; }
+. ../../host/tools.sh
+need_archive
 out=${FUZZ_OUT:-../../target/fuzz}
 mkdir -p "$out/corpus"
 ${CLANG:-clang} -std=c99 -Wall -Wextra -g -O1 -fsanitize=fuzzer,address,undefined -fno-sanitize-recover=all \

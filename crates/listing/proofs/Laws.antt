@@ -7,8 +7,7 @@ use Prim.Native.Nat.{ℕ, _≤_}
 use native.Mathlib.Omega.{arith}
 use borrow.Author.Tests.{eq-eqb, ne-eqb, eqb-true}
 use lib.Dec.{eqb}
-use lib.ListN.{length, take, drop, length-append}
-use lib.Seq.{take-at}
+use lib.ListN.{length, drop, length-append}
 use Rattle.listing.specs.Listing.{listingOf, room, listedOf, listingLeft, refusalOf}
 use Rattle.listing.specs.Promised.{ListingStands, RefusedListingStays}
 use Rattle.listing.specs.declared.Listed.the-variants.{Text, WrongLength}

@@ -7,6 +7,7 @@ use Rattle.promises.proofs.Frames as frames
 use Rattle.promises.proofs.Functions as functions
 use Rattle.promises.proofs.Worked as worked
 use Rattle.promises.proofs.Refused as refused
+use Rattle.promises.proofs.Numbers as numbers
 use Rattle.promises.proofs.Repairs as repairs
 use Rattle.promises.proofs.Values as values
 use Rattle.promises.proofs.Boundary as boundary
@@ -24,7 +25,12 @@ demand-one =
       hearing-refuses = refused.hearing-refuses;
       delays-refuse = refused.delays-refuse;
       code-refuses = refused.code-refuses;
-      gain-refuses = refused.gain-refuses;
+      writer-numbers = numbers.writer-numbers;
+      hearing-numbers = numbers.hearing-numbers;
+      delay-numbers = numbers.delay-numbers;
+      code-numbers = numbers.code-numbers;
+      gain-numbers = numbers.gain-numbers;
+      recording-numbers = numbers.recording-numbers;
       refused-frame-stays = refused.refused-frame-stays;
       refused-state-stays = refused.refused-state-stays;
       refused-code-stays = refused.refused-code-stays;

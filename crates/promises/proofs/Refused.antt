@@ -3,7 +3,6 @@
 use mathlib.Core.Path.{_≡_, _∙_, sym, refl, ap, subst}
 use mathlib.Core.Bool.{Bool, true, false, cond, true≢false}
 use mathlib.Core.List.{List, [], _∷_}
-use mathlib.Core.Logic.{_↔_}
 use Prim.Native.Nat.{ℕ, _+_, _-_, _*_, _<_, _≤_}
 use native.Mathlib.Omega.{arith}
 use native.Mathlib.Decide.{ℕ-discrete, decLe}
@@ -14,10 +13,6 @@ use lib.ListN.{length}
 use Rattle.record.specs.Fields.{tooLarge}
 use Rattle.record.specs.declared.Record.{Record}
 use Rattle.record.proofs.Laws.{none-too-large, all-fit-none-too-large, lowest-too-large, too-large-at}
-use Rattle.gains.specs.Gains.{gainOf}
-use Rattle.gains.specs.Gains as gains
-use Rattle.gains.specs.Tables.{cgTable, pgTable}
-use Rattle.gains.proofs.Laws.{number-too-large, number-none}
 use Rattle.delays.specs.Table.{twelfthsOf, byteOf, rankWith}
 use Rattle.delays.specs.Codes.{afterOf, codedOf, listed, inWindow, baseOf}
 use Rattle.delays.specs.declared.Coded.{Coded}
@@ -44,7 +39,7 @@ use Rattle.values.specs.declared.Outcome.the-variants.{Heard, TooLarge, Expansi
 use Rattle.values.proofs.Laws.{by-outcome, outcome-too-large, outcome-expansion, outcome-heard, values-outcome, refused-state}
 use Rattle.gateway.specs.Pairs.{recordIn}
 use Rattle.gateway.specs.Results.{refused, readAnswer, readResult, readInto, recordLeft, writeResult, frameLeftBy}
-use Rattle.promises.specs.Refused.{ReaderRefuses, LowestTooLarge, Ordered, LowestFall, WriterGives, WriterRefuses, RefusedFrameStays, HearingGives, HearingRefuses, RefusedStateStays, Listed, Follows, FirstNotListed, first-unlisted, second-unlisted, third-unlisted, fourth-unlisted, FirstOutside, second-outside, fourth-outside, Sends, CodingGives, DelaysRefuse, CodeGives, CodeRefuses, RefusedCodeStays, GainRefuses, RefusedReadStays, RefusedWriteStays}
+use Rattle.promises.specs.Refused.{ReaderRefuses, LowestTooLarge, Ordered, LowestFall, WriterGives, WriterRefuses, RefusedFrameStays, HearingGives, HearingRefuses, RefusedStateStays, Listed, Follows, FirstNotListed, first-unlisted, second-unlisted, third-unlisted, fourth-unlisted, FirstOutside, second-outside, fourth-outside, Sends, CodingGives, DelaysRefuse, CodeGives, CodeRefuses, RefusedCodeStays, RefusedReadStays, RefusedWriteStays}
 
 pub reader-refuses : ReaderRefuses
 unfolding ReaderRefuses
@@ -338,21 +333,6 @@ code-left Code.TooLarge index l w = refl
 pub refused-code-stays : RefusedCodeStays
 unfolding RefusedCodeStays code.codeLeft
 refused-code-stays index l w = code-left (code.writtenOf index (length l)) index l w
-
--- gains
-gain-refuses-in : (table : List ℤ) (index : ℕ) → (gains.refusalOf (gainOf table index) ≡ 2) ↔ (31 < index)
-gain-refuses-in table index = (large, number-too-large table index)
-  where
-    large : gains.refusalOf (gainOf table index) ≡ 2 → 31 < index
-    large e = go (decLe index 31)
-      where
-        go : Dec (index ≤ 31) → 31 < index
-        go (yes h) = let z = number-none table index h in absurd (omega (arith, e, z))
-        go (no h) = omega (arith, h)
-
-pub gain-refuses : GainRefuses
-unfolding GainRefuses
-gain-refuses index = (gain-refuses-in cgTable index, gain-refuses-in pgTable index)
 
 -- the C boundary: no number of 0 or more is a refusal's result
 pub refused-read-stays : RefusedReadStays

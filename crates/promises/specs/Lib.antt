@@ -9,4 +9,5 @@ pub mod Rule
 pub mod Parts
 pub mod Running
 pub mod Made
+pub mod Numbers
 pub mod Demands

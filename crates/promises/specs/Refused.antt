@@ -8,8 +8,6 @@ use lib.IntN.{ℤ, pos}
 use lib.ListN.{length}
 use Rattle.record.specs.Fields.{indexOf, widthOf}
 use Rattle.record.specs.declared.Record.{Record}
-use Rattle.gains.specs.Gains.{cgOf, pgOf}
-use Rattle.gains.specs.Gains as gains
 use Rattle.delays.specs.Table.{twelfthsOf, rankWith}
 use Rattle.delays.specs.Codes.{afterOf, heardOf, codedOf}
 use Rattle.delays.specs.declared.Coded.{Coded}
@@ -114,7 +112,7 @@ CodingGives a b c d (Codes i j k l) = Sends a b c d i j k l
 unfoldable pub DelaysRefuse : Type 0
 DelaysRefuse = (a b c d : ℕ) (x : Coded) → (codedOf (a ∷ b ∷ c ∷ d ∷ []) ≡ x) ↔ CodingGives a b c d x
 
--- a code written into a buffer of n elements: 1, then 2 for an index over 511; a lone gain index: 2 over 31
+-- a code written into a buffer of n elements: 1, then 2 for an index over 511
 abbrev pub CodeGives : ℕ → ℕ → code-written.Written → Type 0
 CodeGives index n Code.WrongLength = n ≡ 60 → ⊥
 CodeGives index n Code.TooLarge = (n ≡ 60) × (511 < index)
@@ -125,9 +123,6 @@ CodeRefuses = (index n : ℕ) (a : code-written.Written) → (code.writtenOf ind
 
 unfoldable pub RefusedCodeStays : Type 0
 RefusedCodeStays = (index : ℕ) (l : List ℤ) → (code.refusalOf (code.writtenOf index (length l)) ≡ 0 → ⊥) → code.codeLeft index l ≡ l
-
-unfoldable pub GainRefuses : Type 0
-GainRefuses = (index : ℕ) → ((gains.refusalOf (cgOf index) ≡ 2) ↔ (31 < index)) × ((gains.refusalOf (pgOf index) ≡ 2) ↔ (31 < index))
 
 -- at the C boundary: a result below 0 leaves the lent buffer as it was
 unfoldable pub RefusedReadStays : Type 0

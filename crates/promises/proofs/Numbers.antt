@@ -1,0 +1,212 @@
+-- The table of refusal numbers, shown: each case of an answer has its row, and each row its case.
+-- Assumes nothing.
+use mathlib.Core.Path.{_≡_, _∙_, sym, refl, ap, subst}
+use mathlib.Core.List.{List, [], _∷_}
+use Prim.Native.Nat.{ℕ, _<_, _≤_}
+use native.Mathlib.Omega.{arith}
+use native.Mathlib.Decide.{decLe}
+use lib.IntN.{ℤ}
+use Rattle.record.specs.declared.Record.{Record}
+use Rattle.gains.specs.Gains.{gainOf}
+use Rattle.gains.specs.Gains as gain
+use Rattle.gains.proofs.Laws.{gain-value, gain-too-large}
+use Rattle.delays.specs.Codes.{codedOf}
+use Rattle.delays.specs.Codes as delay
+use Rattle.delays.specs.declared.Coded.{Coded}
+use Rattle.delays.specs.declared.Coded.the-variants.{Codes, NotListed, OutsideWindow}
+use Rattle.codebook.specs.Code as code
+use Rattle.codebook.specs.declared.Written as code-written
+use Rattle.codebook.specs.declared.Written.the-variants as Code
+use Rattle.frame.specs.Answers.{writtenOf}
+use Rattle.frame.specs.Answers as frame
+use Rattle.frame.specs.declared.Written.{Written}
+use Rattle.frame.specs.declared.Written.the-variants as Written
+use Rattle.values.specs.Values.{valuesOf}
+use Rattle.values.specs.Outcome as hearing
+use Rattle.values.specs.declared.Outcome.{Outcome}
+use Rattle.values.specs.declared.Outcome.the-variants.{Heard, TooLarge, Expansion}
+use Rattle.values.specs.declared.State.{State}
+use Rattle.blocks.specs.Walk.{walkedOf}
+use Rattle.blocks.specs.Frames.{framesOf}
+use Rattle.blocks.specs.Refusals.{refusalOf, tellsOf, walkedRefusal, walkedTells}
+use Rattle.blocks.specs.declared.Cause.{Cause}
+use Rattle.blocks.specs.declared.Cause.the-variants.{TooLong, HeaderCut, PastEnd, WrongSize, UnknownKind, OutOfTurn, EndMissing, WrongCount, Extra}
+use Rattle.blocks.specs.declared.Walked.{Walked}
+use Rattle.blocks.specs.declared.Walked.the-variants as Walked
+use Rattle.recording.specs.Judged.{judgedOf, judgedBy, judgedRefusal, judgedTells}
+use Rattle.recording.specs.declared.Judged.{Judged}
+use Rattle.recording.specs.declared.Judged.the-variants as Judged
+use Rattle.promises.specs.Refused.{WriterGives, WriterRefuses, HearingGives, HearingRefuses, CodingGives, DelaysRefuse, CodeGives, CodeRefuses}
+use Rattle.promises.specs.Rule.{Given}
+use Rattle.promises.specs.Numbers.{WriterTable, write-length, write-index, write-fall, write-expansion, write-frame, WriterNumbers, HearingTable, hear-index, hear-expansion, hear-values, HearingNumbers, DelayTable, delay-unlisted, delay-outside, delay-codes, DelayNumbers, CodeTable, code-length, code-index, code-elements, CodeNumbers, GainTable, gain-index, gain-entry, GainNumbers, RecordingTable, too-long, header-cut, past-end, wrong-size, unknown-kind, out-of-turn, end-missing, wrong-count, extra, sound, RecordingNumbers}
+use Rattle.promises.proofs.Refused.{writer-refuses, hearing-refuses, delays-refuse, code-refuses}
+use Rattle.promises.proofs.Rule.{refused-exactly, sound-exactly}
+
+-- a row at a number and what is told, from the row at those of the answer
+at-row : (row : ℕ → List ℕ → Type 0) {m k : ℕ} {u t : List ℕ} → row m u → (m ≡ k) × (u ≡ t) → row k t
+at-row row {m} {k} {u} {t} p (e, f) = subst (row k) f (subst (λ (x : ℕ). row x u) e p)
+
+-- the number and what is told, from the answer
+told : {A : Type 0} (number : A → ℕ) (tells : A → List ℕ) {x a : A} → x ≡ a → (number x ≡ number a) × (tells x ≡ tells a)
+told number tells e = (ap number e, ap tells e)
+
+module _ (r : Record) (n : ℕ) where
+  writer-row : (a : Written) → WriterGives r n a → WriterTable r n (frame.refusalOf a) (frame.tellsOf a)
+  writer-row Written.WrongLength w = write-length w
+  writer-row (Written.TooLarge f) (e, l) = write-index f e l
+  writer-row (Written.Falling m) (e, fit, l) = write-fall m e fit l
+  writer-row Written.Expansion (e, fit, o, s) = write-expansion e fit o s
+  writer-row Written.Frame (e, fit, o, s) = write-frame e fit o s
+
+  writer-is : (a : Written) → WriterGives r n a → writtenOf r n ≡ a
+  unfolding WriterRefuses
+  writer-is a g = writer-refuses r n a .1 g
+
+  writer-at : {k : ℕ} {t : List ℕ} → WriterTable r n k t → (frame.refusalOf (writtenOf r n) ≡ k) × (frame.tellsOf (writtenOf r n) ≡ t)
+  writer-at (write-length w) = told frame.refusalOf frame.tellsOf (writer-is Written.WrongLength w)
+  writer-at (write-index f e l) = told frame.refusalOf frame.tellsOf (writer-is (Written.TooLarge f) (e, l))
+  writer-at (write-fall m e fit l) = told frame.refusalOf frame.tellsOf (writer-is (Written.Falling m) (e, fit, l))
+  writer-at (write-expansion e fit o s) = told frame.refusalOf frame.tellsOf (writer-is Written.Expansion (e, fit, o, s))
+  writer-at (write-frame e fit o s) = told frame.refusalOf frame.tellsOf (writer-is Written.Frame (e, fit, o, s))
+
+pub writer-numbers : WriterNumbers
+unfolding WriterNumbers WriterRefuses
+writer-numbers r n k t =
+    (at-row (WriterTable r n) (writer-row r n (writtenOf r n) (writer-refuses r n (writtenOf r n) .0 refl)), writer-at r n)
+
+module _ (r : Record) (before : State) where
+  abbrev outcome-told : Outcome
+  outcome-told = valuesOf r before .outcome
+
+  hearing-row : (o : Outcome) → HearingGives r o → HearingTable r (hearing.refusalOf o) (hearing.tellsOf o)
+  hearing-row (TooLarge f) l = hear-index f l
+  hearing-row Expansion (fit, s) = hear-expansion fit s
+  hearing-row Heard (fit, s) = hear-values fit s
+
+  hearing-is : (o : Outcome) → HearingGives r o → outcome-told ≡ o
+  unfolding HearingRefuses
+  hearing-is o g = hearing-refuses r before o .1 g
+
+  hearing-at : {k : ℕ} {t : List ℕ} → HearingTable r k t → (hearing.refusalOf outcome-told ≡ k) × (hearing.tellsOf outcome-told ≡ t)
+  hearing-at (hear-index f l) = told hearing.refusalOf hearing.tellsOf (hearing-is (TooLarge f) l)
+  hearing-at (hear-expansion fit s) = told hearing.refusalOf hearing.tellsOf (hearing-is Expansion (fit, s))
+  hearing-at (hear-values fit s) = told hearing.refusalOf hearing.tellsOf (hearing-is Heard (fit, s))
+
+pub hearing-numbers : HearingNumbers
+unfolding HearingNumbers HearingRefuses
+hearing-numbers r before k t = (
+  at-row (HearingTable r) (hearing-row r before (valuesOf r before .outcome) (hearing-refuses r before (valuesOf r before .outcome) .0 refl)),
+  hearing-at r before,
+)
+
+module _ (a b c d : ℕ) where
+  abbrev coded : Coded
+  coded = codedOf (a ∷ b ∷ c ∷ d ∷ [])
+
+  delay-row : (x : Coded) → CodingGives a b c d x → DelayTable a b c d (delay.refusalOf x) (delay.tellsOf x)
+  delay-row (NotListed n) g = delay-unlisted n g
+  delay-row (OutsideWindow n) g = delay-outside n g
+  delay-row (Codes i j k l) g = delay-codes i j k l g
+
+  delay-is : (x : Coded) → CodingGives a b c d x → coded ≡ x
+  unfolding DelaysRefuse
+  delay-is x g = delays-refuse a b c d x .1 g
+
+  delay-at : {k : ℕ} {t : List ℕ} → DelayTable a b c d k t → (delay.refusalOf coded ≡ k) × (delay.tellsOf coded ≡ t)
+  delay-at (delay-unlisted n g) = told delay.refusalOf delay.tellsOf (delay-is (NotListed n) g)
+  delay-at (delay-outside n g) = told delay.refusalOf delay.tellsOf (delay-is (OutsideWindow n) g)
+  delay-at (delay-codes i j k l g) = told delay.refusalOf delay.tellsOf (delay-is (Codes i j k l) g)
+
+pub delay-numbers : DelayNumbers
+unfolding DelayNumbers DelaysRefuse
+delay-numbers a b c d k t =
+    (at-row (DelayTable a b c d) (delay-row a b c d (coded a b c d) (delays-refuse a b c d (coded a b c d) .0 refl)), delay-at a b c d)
+
+module _ (index n : ℕ) where
+  code-row : (a : code-written.Written) → CodeGives index n a → CodeTable index n (code.refusalOf a) (code.tellsOf a)
+  code-row Code.WrongLength w = code-length w
+  code-row Code.TooLarge (e, h) = code-index e h
+  code-row Code.Code (e, h) = code-elements e h
+
+  code-is : (a : code-written.Written) → CodeGives index n a → code.writtenOf index n ≡ a
+  unfolding CodeRefuses
+  code-is a g = code-refuses index n a .1 g
+
+  code-at : {k : ℕ} {t : List ℕ} → CodeTable index n k t → (code.refusalOf (code.writtenOf index n) ≡ k) × (code.tellsOf (code.writtenOf index n) ≡ t)
+  code-at (code-length w) = told code.refusalOf code.tellsOf (code-is Code.WrongLength w)
+  code-at (code-index e h) = told code.refusalOf code.tellsOf (code-is Code.TooLarge (e, h))
+  code-at (code-elements e h) = told code.refusalOf code.tellsOf (code-is Code.Code (e, h))
+
+pub code-numbers : CodeNumbers
+unfolding CodeNumbers CodeRefuses
+code-numbers index n k t =
+    (at-row (CodeTable index n) (code-row index n (code.writtenOf index n) (code-refuses index n (code.writtenOf index n) .0 refl)), code-at index n)
+
+module _ (table : List ℤ) (index : ℕ) where
+  gain-at : {k : ℕ} {t : List ℕ} → GainTable index k t → (gain.refusalOf (gainOf table index) ≡ k) × (gain.tellsOf (gainOf table index) ≡ t)
+  gain-at (gain-index h) = told gain.refusalOf gain.tellsOf (gain-too-large table index h)
+  gain-at (gain-entry h) = told gain.refusalOf gain.tellsOf (gain-value table index h)
+
+  gain-row : GainTable index (gain.refusalOf (gainOf table index)) (gain.tellsOf (gainOf table index))
+  gain-row = go (decLe index 31)
+    where
+      go : Dec (index ≤ 31) → GainTable index (gain.refusalOf (gainOf table index)) (gain.tellsOf (gainOf table index))
+      go (yes h) = rw (gain-value table index h) (gain-entry h)
+      go (no h) = let over : 31 < index = omega (arith, h) in rw (gain-too-large table index over) (gain-index over)
+
+pub gain-numbers : GainNumbers
+unfolding GainNumbers
+gain-numbers table index k t = (at-row (GainTable index) (gain-row table index), gain-at table index)
+
+module _ (s : List ℕ) where
+  cause-row : (c : Cause) → Given s c → RecordingTable s (refusalOf c) (tellsOf c)
+  cause-row TooLong g = too-long g
+  cause-row (HeaderCut p) g = header-cut p g
+  cause-row (PastEnd p) g = past-end p g
+  cause-row (WrongSize p) g = wrong-size p g
+  cause-row (UnknownKind p) g = unknown-kind p g
+  cause-row (OutOfTurn p) g = out-of-turn p g
+  cause-row (EndMissing p) g = end-missing p g
+  cause-row (WrongCount p) g = wrong-count p g
+  cause-row (Extra p) g = extra p g
+
+  recording-row : RecordingTable s (judgedRefusal (judgedOf s)) (judgedTells (judgedOf s))
+  recording-row = go (judgedOf s) refl
+    where
+      go : (j : Judged) → judgedOf s ≡ j → RecordingTable s (judgedRefusal (judgedOf s)) (judgedTells (judgedOf s))
+      go (Judged.Sound x) e = rw e (sound (sound-exactly s .0 (x, e)))
+      go (Judged.Refused c) e = rw e (cause-row c (refused-exactly s c .0 e))
+
+  refused-at : (c : Cause) → Given s c → (judgedRefusal (judgedOf s) ≡ refusalOf c) × (judgedTells (judgedOf s) ≡ tellsOf c)
+  refused-at c g = told judgedRefusal judgedTells (refused-exactly s c .1 g)
+
+  recording-at : {k : ℕ} {t : List ℕ} → RecordingTable s k t → (judgedRefusal (judgedOf s) ≡ k) × (judgedTells (judgedOf s) ≡ t)
+  recording-at (too-long g) = refused-at TooLong g
+  recording-at (header-cut p g) = refused-at (HeaderCut p) g
+  recording-at (past-end p g) = refused-at (PastEnd p) g
+  recording-at (wrong-size p g) = refused-at (WrongSize p) g
+  recording-at (unknown-kind p g) = refused-at (UnknownKind p) g
+  recording-at (out-of-turn p g) = refused-at (OutOfTurn p) g
+  recording-at (end-missing p g) = refused-at (EndMissing p) g
+  recording-at (wrong-count p g) = refused-at (WrongCount p) g
+  recording-at (extra p g) = refused-at (Extra p) g
+  recording-at (sound a) = told judgedRefusal judgedTells (sound-exactly s .1 a .1)
+
+  -- judging refuses as walking through does
+  same-refusal : (judgedRefusal (judgedOf s) ≡ walkedRefusal (walkedOf s)) × (judgedTells (judgedOf s) ≡ walkedTells (walkedOf s))
+  unfolding judgedOf
+  same-refusal = go (walkedOf s)
+    where
+      go : (w : Walked) → (judgedRefusal (judgedBy w (framesOf s)) ≡ walkedRefusal w) × (judgedTells (judgedBy w (framesOf s)) ≡ walkedTells w)
+      go (Walked.Whole h) = (refl, refl)
+      go (Walked.Refused c) = (refl, refl)
+
+pub recording-numbers : RecordingNumbers
+unfolding RecordingNumbers
+recording-numbers s k t = (
+  (at-row (RecordingTable s) (recording-row s), recording-at s),
+  (
+    at-row (RecordingTable s) (at-row (RecordingTable s) (recording-row s) (same-refusal s)),
+    λ w. (sym (same-refusal s .0) ∙ recording-at s w .0, sym (same-refusal s .1) ∙ recording-at s w .1),
+  ),
+)

@@ -1,0 +1,100 @@
+-- The table of document 01, "Refusal numbers": for each answer its refusal's number, when it is given, and what it tells. A row is a
+-- number, a list of what is told, and the condition; 0 is no refusal. An answer has a number and tells a list exactly when such a row
+-- is met, so that a renumbering moves a row and the definition of the number, and no condition.
+use mathlib.Core.Path.{_≡_}
+use mathlib.Core.List.{List, [], _∷_}
+use mathlib.Core.Logic.{_↔_}
+use Prim.Native.Nat.{ℕ, _<_, _≤_}
+use lib.IntN.{ℤ}
+use Rattle.record.specs.declared.Record.{Record}
+use Rattle.gains.specs.Gains.{gainOf}
+use Rattle.gains.specs.Gains as gain
+use Rattle.delays.specs.Codes.{codedOf}
+use Rattle.delays.specs.Codes as delay
+use Rattle.codebook.specs.Code as code
+use Rattle.frame.specs.Answers.{writtenOf}
+use Rattle.frame.specs.Answers as frame
+use Rattle.values.specs.Outcome as hearing
+use Rattle.values.specs.Values.{valuesOf}
+use Rattle.values.specs.declared.State.{State}
+use Rattle.blocks.specs.Walk.{walkedOf}
+use Rattle.blocks.specs.Refusals.{walkedRefusal, walkedTells}
+use Rattle.blocks.specs.declared.Cause.the-variants.{TooLong, HeaderCut, PastEnd, WrongSize, UnknownKind, OutOfTurn, EndMissing, WrongCount, Extra}
+use Rattle.recording.specs.Judged.{judgedOf, judgedRefusal, judgedTells}
+use Rattle.promises.specs.Refused.{Fits, LowestTooLarge, Ordered, LowestFall, FirstNotListed, FirstOutside, Sends}
+use Rattle.promises.specs.Rule.{Given, Accepted}
+
+-- a record to write, into a buffer of n bytes
+pub data WriterTable (r : Record) (n : ℕ) : ℕ → List ℕ → Type 0 where
+  write-length : (n ≡ 18 → ⊥) → WriterTable r n 1 []
+  write-index : (f : ℕ) → n ≡ 18 → LowestTooLarge r f → WriterTable r n 2 (f ∷ [])
+  write-fall : (m : ℕ) → n ≡ 18 → Fits r → LowestFall r m → WriterTable r n 3 (m ∷ [])
+  write-expansion : n ≡ 18 → Fits r → Ordered r → r .sp ≡ 1 → WriterTable r n 6 []
+  write-frame : n ≡ 18 → Fits r → Ordered r → r .sp ≡ 0 → WriterTable r n 0 []
+
+unfoldable pub WriterNumbers : Type 0
+WriterNumbers =
+    (r : Record) (n k : ℕ) (t : List ℕ)
+    → ((frame.refusalOf (writtenOf r n) ≡ k) × (frame.tellsOf (writtenOf r n) ≡ t)) ↔ WriterTable r n k t
+
+-- a record to hear
+pub data HearingTable (r : Record) : ℕ → List ℕ → Type 0 where
+  hear-index : (f : ℕ) → LowestTooLarge r f → HearingTable r 2 (f ∷ [])
+  hear-expansion : Fits r → r .sp ≡ 1 → HearingTable r 6 []
+  hear-values : Fits r → r .sp ≡ 0 → HearingTable r 0 []
+
+unfoldable pub HearingNumbers : Type 0
+HearingNumbers =
+    (r : Record) (before : State) (k : ℕ) (t : List ℕ)
+    → ((hearing.refusalOf (valuesOf r before .outcome) ≡ k) × (hearing.tellsOf (valuesOf r before .outcome) ≡ t)) ↔ HearingTable r k t
+
+-- four delays to send
+pub data DelayTable (a b c d : ℕ) : ℕ → List ℕ → Type 0 where
+  delay-unlisted : (n : ℕ) → FirstNotListed a b c d n → DelayTable a b c d 4 (n ∷ [])
+  delay-outside : (n : ℕ) → FirstOutside a b c d n → DelayTable a b c d 5 (n ∷ [])
+  delay-codes : (i j k l : ℕ) → Sends a b c d i j k l → DelayTable a b c d 0 []
+
+unfoldable pub DelayNumbers : Type 0
+DelayNumbers =
+    (a b c d k : ℕ) (t : List ℕ)
+    → ((delay.refusalOf (codedOf (a ∷ b ∷ c ∷ d ∷ [])) ≡ k) × (delay.tellsOf (codedOf (a ∷ b ∷ c ∷ d ∷ [])) ≡ t)) ↔ DelayTable a b c d k t
+
+-- a code to write, into a buffer of n elements; "0 for a lone index (code over 511, gain over 31)"
+pub data CodeTable (index n : ℕ) : ℕ → List ℕ → Type 0 where
+  code-length : (n ≡ 60 → ⊥) → CodeTable index n 1 []
+  code-index : n ≡ 60 → 511 < index → CodeTable index n 2 (0 ∷ [])
+  code-elements : n ≡ 60 → index ≤ 511 → CodeTable index n 0 []
+
+unfoldable pub CodeNumbers : Type 0
+CodeNumbers =
+    (index n k : ℕ) (t : List ℕ)
+    → ((code.refusalOf (code.writtenOf index n) ≡ k) × (code.tellsOf (code.writtenOf index n) ≡ t)) ↔ CodeTable index n k t
+
+-- a lone gain index, in either table
+pub data GainTable (index : ℕ) : ℕ → List ℕ → Type 0 where
+  gain-index : 31 < index → GainTable index 2 (0 ∷ [])
+  gain-entry : index ≤ 31 → GainTable index 0 []
+
+unfoldable pub GainNumbers : Type 0
+GainNumbers =
+    (table : List ℤ) (index k : ℕ) (t : List ℕ)
+    → ((gain.refusalOf (gainOf table index) ≡ k) × (gain.tellsOf (gainOf table index) ≡ t)) ↔ GainTable index k t
+
+-- a recording, walked through or judged
+pub data RecordingTable (s : List ℕ) : ℕ → List ℕ → Type 0 where
+  too-long : Given s TooLong → RecordingTable s 1 []
+  header-cut : (p : ℕ) → Given s (HeaderCut p) → RecordingTable s 7 (p ∷ [])
+  past-end : (p : ℕ) → Given s (PastEnd p) → RecordingTable s 7 (p ∷ [])
+  wrong-size : (p : ℕ) → Given s (WrongSize p) → RecordingTable s 7 (p ∷ [])
+  unknown-kind : (p : ℕ) → Given s (UnknownKind p) → RecordingTable s 8 (p ∷ [])
+  out-of-turn : (p : ℕ) → Given s (OutOfTurn p) → RecordingTable s 8 (p ∷ [])
+  end-missing : (p : ℕ) → Given s (EndMissing p) → RecordingTable s 8 (p ∷ [])
+  wrong-count : (p : ℕ) → Given s (WrongCount p) → RecordingTable s 8 (p ∷ [])
+  extra : (p : ℕ) → Given s (Extra p) → RecordingTable s 8 (p ∷ [])
+  sound : Accepted s → RecordingTable s 0 []
+
+unfoldable pub RecordingNumbers : Type 0
+RecordingNumbers =
+    (s : List ℕ) (k : ℕ) (t : List ℕ)
+    → (((judgedRefusal (judgedOf s) ≡ k) × (judgedTells (judgedOf s) ≡ t)) ↔ RecordingTable s k t)
+    × (((walkedRefusal (walkedOf s) ≡ k) × (walkedTells (walkedOf s) ≡ t)) ↔ RecordingTable s k t)
