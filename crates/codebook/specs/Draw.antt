@@ -31,15 +31,15 @@ abbrev pub keptAt : Generator → ℕ → ℤ
 keptAt g k = getD (g .kept) (k - 1) (pos 0)
 
 -- `temp=iand(y(k)+y(j), 65535)`, `if (temp .gt. 32767) temp=temp-65536`
-abbrev pub valueOf : Generator → ℕ → ℕ → ℤ
-valueOf g k j = wrapped (keptAt g k +ℤ keptAt g j)
+abbrev pub drawnValue : Generator → ℕ → ℕ → ℤ
+drawnValue g k j = wrapped (keptAt g k +ℤ keptAt g j)
 
 -- `y(k)=temp`, and both positions move
-abbrev pub after : Generator → ℕ → ℕ → ℤ → Generator
-after g k j v = record { kept = set (g .kept) (k - 1) v; first = movedOf k; second = movedOf j }
+abbrev pub generatorAfter : Generator → ℕ → ℕ → ℤ → Generator
+generatorAfter g k j v = record { kept = set (g .kept) (k - 1) v; first = movedOf k; second = movedOf j }
 
 abbrev pub drawAt : Generator → ℕ → ℕ → Draw
-drawAt g k j = record { value = valueOf g k j; generator = after g k j (valueOf g k j) }
+drawAt g k j = record { value = drawnValue g k j; generator = generatorAfter g k j (drawnValue g k j) }
 
 -- a draw: the number drawn, and the generator after it
 unfoldable pub drawOf : Generator → Draw

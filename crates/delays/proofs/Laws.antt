@@ -10,8 +10,8 @@ use lib.Dec.{T, leb, leb→le}
 use lib.ListN.{getD}
 use borrow.Author.Tests.{lt-ltb, le-leb, ltb-true}
 use Rattle.laws.proofs.Table.{both-left, both-right}
-use Rattle.delays.specs.Table.{delays, twelfthsOf, byteOf, rankOf, rankWith}
-use Rattle.delays.specs.Codes.{baseOf, afterOf, firstOf, nextOf, heardOf, listed, inWindow, unless, pairOf, codedOf}
+use Rattle.delays.specs.Table.{delays, twelfthsOf, printedByte, rankOf, rankWith}
+use Rattle.delays.specs.Codes.{baseOf, afterOf, firstRank, secondRank, meantBy, listed, inWindow, unless, pairOf, codedOf}
 use Rattle.delays.specs.declared.Coded.{Coded}
 use Rattle.delays.specs.declared.Coded.the-variants.{Codes, NotListed, OutsideWindow}
 use Rattle.delays.proofs.Table.{twelfths-low, twelfths-high, twelfths-rise, rank-twelfths, twelfths-rank, rank-byte, byte-below, rank-below, byte-rank}
@@ -76,44 +76,44 @@ after-in rank step =
 after-back : (rank step : ℕ) → afterOf rank step - baseOf rank ≡ step % 64
 after-back rank step = omega arith
 
-pub first-below : (code : ℕ) → firstOf code < 256
+pub first-below : (code : ℕ) → firstRank code < 256
 first-below code = rank-below (code % 256) (omega arith)
 
 -- what is heard lies between 20 and 147 samples, whatever the codes
 rank-within : (rank : ℕ) → rank < 256 → (240 ≤ twelfthsOf rank) × (twelfthsOf rank ≤ 1764)
 rank-within rank h = (twelfths-low rank h, twelfths-high rank h)
 
-pub heard-within : (codes : List ℕ) (k : ℕ) → k < 4 → (240 ≤ getD (heardOf codes) k 0) × (getD (heardOf codes) k 0 ≤ 1764)
-unfolding heardOf
-heard-within codes zero h = rank-within (firstOf (getD codes 0 0)) (first-below (getD codes 0 0))
-heard-within codes (suc zero) h = rank-within (nextOf (getD codes 0 0) (getD codes 1 0)) (after-below (firstOf (getD codes 0 0)) (getD codes 1 0))
-heard-within codes (suc (suc zero)) h = rank-within (firstOf (getD codes 2 0)) (first-below (getD codes 2 0))
-heard-within codes (suc (suc (suc zero))) h = rank-within (nextOf (getD codes 2 0) (getD codes 3 0)) (after-below (firstOf (getD codes 2 0)) (getD codes 3 0))
+pub heard-within : (codes : List ℕ) (k : ℕ) → k < 4 → (240 ≤ getD (meantBy codes) k 0) × (getD (meantBy codes) k 0 ≤ 1764)
+unfolding meantBy
+heard-within codes zero h = rank-within (firstRank (getD codes 0 0)) (first-below (getD codes 0 0))
+heard-within codes (suc zero) h = rank-within (secondRank (getD codes 0 0) (getD codes 1 0)) (after-below (firstRank (getD codes 0 0)) (getD codes 1 0))
+heard-within codes (suc (suc zero)) h = rank-within (firstRank (getD codes 2 0)) (first-below (getD codes 2 0))
+heard-within codes (suc (suc (suc zero))) h = rank-within (secondRank (getD codes 2 0) (getD codes 3 0)) (after-below (firstRank (getD codes 2 0)) (getD codes 3 0))
 heard-within codes (suc (suc (suc (suc k)))) h = absurd (omega arith)
 
 -- codes to delays to codes: the lowest eight and six bits come back
-pub codes-back : (a b c d : ℕ) → codedOf (heardOf (a ∷ b ∷ c ∷ d ∷ [])) ≡ Codes (a % 256) (b % 64) (c % 256) (d % 64)
-unfolding codedOf heardOf
+pub codes-back : (a b c d : ℕ) → codedOf (meantBy (a ∷ b ∷ c ∷ d ∷ [])) ≡ Codes (a % 256) (b % 64) (c % 256) (d % 64)
+unfolding codedOf meantBy
 codes-back a b c d =
     simp (
-      rank-twelfths (firstOf a) (first-below a),
-      rank-twelfths (nextOf a b) (after-below (firstOf a) b),
-      rank-twelfths (firstOf c) (first-below c),
-      rank-twelfths (nextOf c d) (after-below (firstOf c) d),
-      lt-ltb (firstOf a) 256 (first-below a),
-      lt-ltb (nextOf a b) 256 (after-below (firstOf a) b),
-      lt-ltb (firstOf c) 256 (first-below c),
-      lt-ltb (nextOf c d) 256 (after-below (firstOf c) d),
-      after-in (firstOf a) b,
-      after-in (firstOf c) d,
-      after-back (firstOf a) b,
-      after-back (firstOf c) d,
+      rank-twelfths (firstRank a) (first-below a),
+      rank-twelfths (secondRank a b) (after-below (firstRank a) b),
+      rank-twelfths (firstRank c) (first-below c),
+      rank-twelfths (secondRank c d) (after-below (firstRank c) d),
+      lt-ltb (firstRank a) 256 (first-below a),
+      lt-ltb (secondRank a b) 256 (after-below (firstRank a) b),
+      lt-ltb (firstRank c) 256 (first-below c),
+      lt-ltb (secondRank c d) 256 (after-below (firstRank c) d),
+      after-in (firstRank a) b,
+      after-in (firstRank c) d,
+      after-back (firstRank a) b,
+      after-back (firstRank c) d,
       byte-rank (a % 256) (omega arith),
       byte-rank (c % 256) (omega arith),
     )
 
 -- so codes within eight and six bits come back whole
-pub codes-whole : (a b c d : ℕ) → a < 256 → b < 64 → c < 256 → d < 64 → codedOf (heardOf (a ∷ b ∷ c ∷ d ∷ [])) ≡ Codes a b c d
+pub codes-whole : (a b c d : ℕ) → a < 256 → b < 64 → c < 256 → d < 64 → codedOf (meantBy (a ∷ b ∷ c ∷ d ∷ [])) ≡ Codes a b c d
 codes-whole a b c d ha hb hc hd =
     let ea : a % 256 ≡ a = omega arith in
     let eb : b % 64 ≡ b = omega arith in
@@ -135,18 +135,18 @@ window-step before rank w =
 record Pair (w x a b : ℕ) : Type 0 where
   byte : a < 256
   step : b < 64
-  first : twelfthsOf (firstOf a) ≡ w
-  next : twelfthsOf (nextOf a b) ≡ x
+  first : twelfthsOf (firstRank a) ≡ w
+  next : twelfthsOf (secondRank a b) ≡ x
 
-pair-back : (w x a b : ℕ) → listed w ≡ true → listed x ≡ true → inWindow (rankWith w) (rankWith x) ≡ true → byteOf (rankWith w) ≡ a
+pair-back : (w x a b : ℕ) → listed w ≡ true → listed x ≡ true → inWindow (rankWith w) (rankWith x) ≡ true → printedByte (rankWith w) ≡ a
     → rankWith x - baseOf (rankWith w) ≡ b → Pair w x a b
 pair-back w x a b lw lx i ea eb =
     let hw : rankWith w < 256 = ltb-true (rankWith w) 256 lw in
     let hx : rankWith x < 256 = ltb-true (rankWith x) 256 lx in
     let l : a < 256 = omega (arith, byte-below (rankWith w) hw) in
-    let f : firstOf a ≡ rankWith w = (let e : a % 256 ≡ a = omega arith in ap rankOf (e ∙ sym ea) ∙ rank-byte (rankWith w) hw) in
+    let f : firstRank a ≡ rankWith w = (let e : a % 256 ≡ a = omega arith in ap rankOf (e ∙ sym ea) ∙ rank-byte (rankWith w) hw) in
     let s = window-step (rankWith w) (rankWith x) i in
-    let n : nextOf a b ≡ rankWith x = ap (λ (r : ℕ). afterOf r b) f ∙ ap (afterOf (rankWith w)) (sym eb) ∙ s .1 in
+    let n : secondRank a b ≡ rankWith x = ap (λ (r : ℕ). afterOf r b) f ∙ ap (afterOf (rankWith w)) (sym eb) ∙ s .1 in
     record {
       byte = l;
       step = omega (arith, s .0);
@@ -160,7 +160,7 @@ pub record Same (w x y z a b c d : ℕ) : Type 0 where
   pub second : b < 64
   pub third : c < 256
   pub fourth : d < 64
-  pub heard : heardOf (a ∷ b ∷ c ∷ d ∷ []) ≡ w ∷ x ∷ y ∷ z ∷ []
+  pub heard : meantBy (a ∷ b ∷ c ∷ d ∷ []) ≡ w ∷ x ∷ y ∷ z ∷ []
 
 -- delays to codes to delays: delays that are accepted come back
 module _ (w x y z a b c d : ℕ) where
@@ -184,11 +184,11 @@ module _ (w x y z a b c d : ℕ) where
       (one .0, two .0, three .0, three .1)
 
   pub delays-back : codedOf (w ∷ x ∷ y ∷ z ∷ []) ≡ Codes a b c d → Same w x y z a b c d
-  unfolding codedOf heardOf
+  unfolding codedOf meantBy
   delays-back e =
       let on = pair-on 1 w x _ e in
       let off = pair-on 3 y z _ (on .3) in
-      let last : Codes (byteOf (rankWith w)) (rankWith x - baseOf (rankWith w)) (byteOf (rankWith y)) (rankWith z - baseOf (rankWith y)) ≡ Codes a b c d = off .3 in
+      let last : Codes (printedByte (rankWith w)) (rankWith x - baseOf (rankWith w)) (printedByte (rankWith y)) (rankWith z - baseOf (rankWith y)) ≡ Codes a b c d = off .3 in
       let p = pair-back w x a b (on .0) (on .1) (on .2) (cc) (cc) in
       let q = pair-back y z c d (off .0) (off .1) (off .2) (cc) (cc) in
       record {

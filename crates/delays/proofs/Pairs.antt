@@ -11,9 +11,9 @@ use lib.ListN.{getD}
 use borrow.Author.Tests.{lt-ltb, le-ltb, le-leb, lt-leb}
 use Rattle.laws.specs.Tabulate.{tabulate}
 use Rattle.laws.proofs.Tabulate.{getD-tabulate}
-use Rattle.delays.specs.Table.{delays, bytes, twelfthsOf, byteOf, rankOf, rankWith}
-use Rattle.delays.specs.Codes.{baseOf, firstOf, heardOf, listed, inWindow, unless, pairOf, codedOf}
-use Rattle.delays.specs.Steps.{heardPair, codedPair, bothInside}
+use Rattle.delays.specs.Table.{delays, bytes, twelfthsOf, printedByte, rankOf, rankWith}
+use Rattle.delays.specs.Codes.{baseOf, firstRank, meantBy, listed, inWindow, unless, pairOf, codedOf}
+use Rattle.delays.specs.Steps.{meantPair, codedPair, bothInside}
 use Rattle.delays.proofs.Table.{rank-below, byte-below}
 use Rattle.delays.specs.declared.Coded.{Coded}
 use Rattle.delays.specs.declared.Coded.the-variants.{Codes, NotListed, OutsideWindow}
@@ -29,7 +29,7 @@ next-below rank b e = omega arith
 
 -- the rank of an index of subframe 1 or 3, from the table lent
 module _ {ranks : List ℕ} (t : ranks ≡ tabulate rankOf 256) (a : ℕ) where
-  rank-read : getD ranks (a % 256) 0 ≡ firstOf a
+  rank-read : getD ranks (a % 256) 0 ≡ firstRank a
   rank-read = rw t (getD-tabulate rankOf 0 256 (a % 256) (byte-part a))
 
   pub rank-read-below : getD ranks (a % 256) 0 < 256
@@ -37,14 +37,14 @@ module _ {ranks : List ℕ} (t : ranks ≡ tabulate rankOf 256) (a : ℕ) where
 
   -- the two delays of a pair, from both tables and the base
   pub pair-heard : {table : List ℕ} {low : ℕ} (b : ℕ) → table ≡ delays → low ≡ baseOf (getD ranks (a % 256) 0)
-      → getD table (getD ranks (a % 256) 0) 0 ∷ getD table (low + b % 64) 0 ∷ [] ≡ heardPair a b
+      → getD table (getD ranks (a % 256) 0) 0 ∷ getD table (low + b % 64) 0 ∷ [] ≡ meantPair a b
   unfolding twelfthsOf
   pair-heard b d e = rw (e, d, rank-read)
 
 -- the delays of two pairs are those of the four subframes
-pub four-heard : {p q : List ℕ} (codes : List ℕ) → p ≡ heardPair (getD codes 0 0) (getD codes 1 0) → q ≡ heardPair (getD codes 2 0) (getD codes 3 0)
-    → getD p 0 0 ∷ getD p 1 0 ∷ getD q 0 0 ∷ getD q 1 0 ∷ [] ≡ heardOf codes
-unfolding heardOf
+pub four-heard : {p q : List ℕ} (codes : List ℕ) → p ≡ meantPair (getD codes 0 0) (getD codes 1 0) → q ≡ meantPair (getD codes 2 0) (getD codes 3 0)
+    → getD p 0 0 ∷ getD p 1 0 ∷ getD q 0 0 ∷ getD q 1 0 ∷ [] ≡ meantBy codes
+unfolding meantBy
 four-heard codes e f = rw (e, f)
 
 -- delays of a and b twelfths, which have the ranks r and s
@@ -110,11 +110,11 @@ pair-carried n a b rest = carried-tests n (rankWith a) (rankWith b - baseOf (ran
 -- the codes from the table of bytes
 module _ {table : List ℕ} (t : table ≡ bytes) where
   pub byte-read-below : (rank : ℕ) → rank < 256 → getD table rank 0 < 256
-  unfolding byteOf
+  unfolding printedByte
   byte-read-below rank h = rw t (byte-below rank h)
 
   pub four-codes : (r s u v : ℕ) → Codes (getD table r 0) s (getD table u 0) v ≡ bothInside r s u v
-  unfolding byteOf
+  unfolding printedByte
   four-codes r s u v = rw t
 
 -- what the first pair's answer makes of four delays, and what the second's does past it

@@ -14,7 +14,7 @@ use Rattle.laws.specs.Tabulate.{tabulate}
 use Rattle.laws.proofs.Table.{at, both-left, both-right}
 use Rattle.laws.proofs.Place.{place-entry, place-back}
 use Rattle.laws.proofs.Tabulate.{length-tabulate, getD-tabulate}
-use Rattle.delays.specs.Table.{delays, bytes, twelfthsOf, stretched, byteOf, rankOf, rankWith}
+use Rattle.delays.specs.Table.{delays, bytes, twelfthsOf, stretched, printedByte, rankOf, rankWith}
 
 pub delays-long : length delays ≡ 256
 unfolding delays
@@ -95,8 +95,8 @@ ranks =
     137 ∷ 38 ∷ 232 ∷ 32 ∷ 136 ∷ 39 ∷ 233 ∷ 33 ∷ 234 ∷ 224 ∷ 225 ∷ 124 ∷ 230 ∷ 226 ∷ 228 ∷ 125 ∷ []
 
 -- each byte has its rank in that list: one of the 256, with that byte
-ranks-test : T (every (λ b r. both (leb (suc r) 256) (eqb (byteOf r) b)) 0 ranks)
-unfolding bytes byteOf ranks
+ranks-test : T (every (λ b r. both (leb (suc r) 256) (eqb (printedByte r) b)) 0 ranks)
+unfolding bytes printedByte ranks
 ranks-test = tt
 
 ranks-long : length ranks ≡ 256
@@ -104,25 +104,25 @@ unfolding ranks
 ranks-long = refl
 
 module _ (byte : ℕ) (h : byte < 256) where
-  ranks-at : T (both (leb (suc (getD ranks byte 0)) 256) (eqb (byteOf (getD ranks byte 0)) byte))
-  ranks-at = at 0 (λ b r. both (leb (suc r) 256) (eqb (byteOf r) b)) ranks ranks-test byte (omega (arith, ranks-long))
+  ranks-at : T (both (leb (suc (getD ranks byte 0)) 256) (eqb (printedByte (getD ranks byte 0)) byte))
+  ranks-at = at 0 (λ b r. both (leb (suc r) 256) (eqb (printedByte r) b)) ranks ranks-test byte (omega (arith, ranks-long))
 
   ranks-below : getD ranks byte 0 < 256
-  ranks-below = leb→le (suc (getD ranks byte 0)) 256 (both-left (leb (suc (getD ranks byte 0)) 256) (eqb (byteOf (getD ranks byte 0)) byte) ranks-at)
+  ranks-below = leb→le (suc (getD ranks byte 0)) 256 (both-left (leb (suc (getD ranks byte 0)) 256) (eqb (printedByte (getD ranks byte 0)) byte) ranks-at)
 
-  ranks-byte : byteOf (getD ranks byte 0) ≡ byte
-  ranks-byte = eqb→eq (byteOf (getD ranks byte 0)) byte (both-right (leb (suc (getD ranks byte 0)) 256) (eqb (byteOf (getD ranks byte 0)) byte) ranks-at)
+  ranks-byte : printedByte (getD ranks byte 0) ≡ byte
+  ranks-byte = eqb→eq (printedByte (getD ranks byte 0)) byte (both-right (leb (suc (getD ranks byte 0)) 256) (eqb (printedByte (getD ranks byte 0)) byte) ranks-at)
 
 -- each byte stands in the table once: the rank of a rank's byte is that rank
-pub rank-byte : (rank : ℕ) → rank < 256 → rankOf (byteOf rank) ≡ rank
-unfolding bytes byteOf rankOf ranks
+pub rank-byte : (rank : ℕ) → rank < 256 → rankOf (printedByte rank) ≡ rank
+unfolding bytes printedByte rankOf ranks
 rank-byte rank h =
     place-back (λ (b : ℕ). getD ranks b 0) bytes
-    (λ k l. eqb→eq (getD ranks (byteOf k) 0) k (at 0 (λ i x. eqb (getD ranks x 0) i) bytes tt k l)) rank h
+    (λ k l. eqb→eq (getD ranks (printedByte k) 0) k (at 0 (λ i x. eqb (getD ranks x 0) i) bytes tt k l)) rank h
 
-pub byte-below : (rank : ℕ) → rank < 256 → byteOf rank < 256
-unfolding bytes byteOf
-byte-below rank h = leb→le (suc (byteOf rank)) 256 (at 0 (λ k x. leb (suc x) 256) bytes tt rank h)
+pub byte-below : (rank : ℕ) → rank < 256 → printedByte rank < 256
+unfolding bytes printedByte
+byte-below rank h = leb→le (suc (printedByte rank)) 256 (at 0 (λ k x. leb (suc x) 256) bytes tt rank h)
 
 -- so the list has the rank of each byte
 ranks-rank : (byte : ℕ) → byte < 256 → getD ranks byte 0 ≡ rankOf byte
@@ -132,8 +132,8 @@ ranks-rank byte h = sym (rank-byte (getD ranks byte 0) (ranks-below byte h)) ∙
 pub rank-below : (byte : ℕ) → byte < 256 → rankOf byte < 256
 rank-below byte h = rw (sym (ranks-rank byte h)) (ranks-below byte h)
 
-pub byte-rank : (byte : ℕ) → byte < 256 → byteOf (rankOf byte) ≡ byte
-byte-rank byte h = ap byteOf (sym (ranks-rank byte h)) ∙ ranks-byte byte h
+pub byte-rank : (byte : ℕ) → byte < 256 → printedByte (rankOf byte) ≡ byte
+byte-rank byte h = ap printedByte (sym (ranks-rank byte h)) ∙ ranks-byte byte h
 
 -- the list is the inverse table
 pub inverse : ranks ≡ tabulate rankOf 256

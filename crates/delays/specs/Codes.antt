@@ -5,7 +5,7 @@ use Prim.Native.Nat.{ℕ, _+_, _-_, _%_, min}
 use lib.Dec.{leb, ltb}
 use lib.ListN.{getD}
 use Rattle.laws.specs.Table.{both}
-use Rattle.delays.specs.Table.{twelfthsOf, byteOf, rankOf, rankWith}
+use Rattle.delays.specs.Table.{twelfthsOf, printedByte, rankOf, rankWith}
 use Rattle.delays.specs.declared.Coded.{Coded}
 use Rattle.delays.specs.declared.Coded.the-variants.{Codes, NotListed, OutsideWindow}
 
@@ -18,18 +18,18 @@ abbrev pub afterOf : ℕ → ℕ → ℕ
 afterOf rank step = baseOf rank + step % 64
 
 -- the rank that the index of subframe 1 or 3 means: its lowest eight bits are the printed byte
-abbrev pub firstOf : ℕ → ℕ
-firstOf code = rankOf (code % 256)
+abbrev pub firstRank : ℕ → ℕ
+firstRank code = rankOf (code % 256)
 
 -- the rank that the index of subframe 2 or 4 means, after the index of the subframe just before
-abbrev pub nextOf : ℕ → ℕ → ℕ
-nextOf before code = afterOf (firstOf before) code
+abbrev pub secondRank : ℕ → ℕ → ℕ
+secondRank before code = afterOf (firstRank before) code
 
 -- the four delays in twelfths that a record's four indices mean
-unfoldable pub heardOf : List ℕ → List ℕ
-heardOf codes =
-    twelfthsOf (firstOf (getD codes 0 0)) ∷ twelfthsOf (nextOf (getD codes 0 0) (getD codes 1 0)) ∷
-    twelfthsOf (firstOf (getD codes 2 0)) ∷ twelfthsOf (nextOf (getD codes 2 0) (getD codes 3 0)) ∷ []
+unfoldable pub meantBy : List ℕ → List ℕ
+meantBy codes =
+    twelfthsOf (firstRank (getD codes 0 0)) ∷ twelfthsOf (secondRank (getD codes 0 0) (getD codes 1 0)) ∷
+    twelfthsOf (firstRank (getD codes 2 0)) ∷ twelfthsOf (secondRank (getD codes 2 0) (getD codes 3 0)) ∷ []
 
 -- a delay is in the list
 abbrev pub listed : ℕ → Bool
@@ -54,7 +54,7 @@ abbrev pub fourOf : ℕ → ℕ → ℕ → ℕ → Coded
 fourOf a b c d =
     pairOf 1 a b
     (pairOf 3 c d
-    (Codes (byteOf (rankWith a)) (rankWith b - baseOf (rankWith a)) (byteOf (rankWith c)) (rankWith d - baseOf (rankWith c))))
+    (Codes (printedByte (rankWith a)) (rankWith b - baseOf (rankWith a)) (printedByte (rankWith c)) (rankWith d - baseOf (rankWith c))))
 
 -- the codes of a list of four delays in twelfths, or the first refusal
 unfoldable pub codedOf : List ℕ → Coded

@@ -2,16 +2,16 @@
 use mathlib.Core.Bool.{cond}
 use mathlib.Core.List.{List, [], _∷_}
 use Prim.Native.Nat.{ℕ, _-_}
-use Rattle.delays.specs.Table.{twelfthsOf, byteOf, rankWith}
-use Rattle.delays.specs.Codes.{baseOf, firstOf, nextOf, listed, inWindow}
+use Rattle.delays.specs.Table.{twelfthsOf, printedByte, rankWith}
+use Rattle.delays.specs.Codes.{baseOf, firstRank, secondRank, listed, inWindow}
 use Rattle.delays.specs.declared.Coded.{Coded}
 use Rattle.delays.specs.declared.Coded.the-variants.{Codes}
 use Rattle.delays.specs.declared.Pair.{Pair}
 use Rattle.delays.specs.declared.Pair.the-variants.{Inside, FirstNotListed, SecondNotListed, SecondOutside}
 
 -- the two delays in twelfths of subframes 1 and 2, or 3 and 4
-abbrev pub heardPair : ℕ → ℕ → List ℕ
-heardPair a b = twelfthsOf (firstOf a) ∷ twelfthsOf (nextOf a b) ∷ []
+abbrev pub meantPair : ℕ → ℕ → List ℕ
+meantPair a b = twelfthsOf (firstRank a) ∷ twelfthsOf (secondRank a b) ∷ []
 
 -- delays of a and b twelfths in subframes 1 and 2, or 3 and 4: the rank of the first and the code of the second, or what is refused
 unfoldable pub codedPair : ℕ → ℕ → Pair
@@ -22,4 +22,4 @@ codedPair a b =
 
 -- the codes of two pairs inside their windows, from the ranks of the first and third delay and the codes of the second and fourth
 abbrev pub bothInside : ℕ → ℕ → ℕ → ℕ → Coded
-bothInside r s u v = Codes (byteOf r) s (byteOf u) v
+bothInside r s u v = Codes (printedByte r) s (printedByte u) v

@@ -5,7 +5,7 @@ use mathlib.Core.List.{List, [], _∷_}
 use Prim.Native.Nat.{ℕ, _+_, _-_, _*_}
 use lib.Dec.{leb}
 use lib.ListN.{getD}
-use Rattle.laws.specs.Place.{placeOf}
+use Rattle.laws.specs.Place.{placeIn}
 
 -- the delays in twelfths, in rising order; the printed .33 and .67 are 4 and 8 twelfths
 unfoldable pub delays : List ℕ
@@ -75,13 +75,13 @@ stretched rank =
     (cond (leb rank 49) (12 * 26 + 3 * (rank - 18)) (cond (leb rank 187) (12 * 34 + 4 * (rank - 50)) (12 * 80 + 12 * (rank - 188))))
 
 -- the printed byte of a rank
-unfoldable pub byteOf : ℕ → ℕ
-byteOf rank = getD bytes rank 0
+unfoldable pub printedByte : ℕ → ℕ
+printedByte rank = getD bytes rank 0
 
 -- the rank of a printed byte
 unfoldable pub rankOf : ℕ → ℕ
-rankOf byte = placeOf byte bytes
+rankOf byte = placeIn byte bytes
 
 -- the rank of a delay in twelfths, or 256 if it is not in the list
 unfoldable pub rankWith : ℕ → ℕ
-rankWith delay = placeOf delay delays
+rankWith delay = placeIn delay delays

@@ -3,8 +3,8 @@
 // A table is taken once in a call, by one of the three functions that answer a table, and lent on.
 ghost use mathlib.Core.Path.{_≡_};
 ghost use Rattle.delays.specs.Table.{delays, bytes, rankOf, rankWith};
-ghost use Rattle.delays.specs.Codes.{baseOf, heardOf, codedOf};
-ghost use Rattle.delays.specs.Steps.{heardPair, codedPair, bothInside};
+ghost use Rattle.delays.specs.Codes.{baseOf, meantBy, codedOf};
+ghost use Rattle.delays.specs.Steps.{meantPair, codedPair, bothInside};
 ghost use Rattle.laws.specs.Tabulate.{tabulate};
 
 mod tables;
@@ -44,10 +44,10 @@ fn base(rank: u16) -> u16
 }
 
 // The two delays in twelfths that the indices of subframes 1 and 2, or 3 and 4, mean.
-fn heard_pair(ranks: &[u8; 256], table: &[u16; 256], first: u16, second: u16) -> [u16; 2]
+fn meant_pair(ranks: &[u8; 256], table: &[u16; 256], first: u16, second: u16) -> [u16; 2]
     requires { ⌜ now ranks ≡ tabulate rankOf 256 ⌝ }
     requires { ⌜ now table ≡ delays ⌝ }
-    ensures { λ r. ⌜ r ≡ heardPair first second ⌝ }
+    ensures { λ r. ⌜ r ≡ meantPair first second ⌝ }
 {
     let rank = ranks[(first % 256) as usize];
     let low = base(rank as u16);
@@ -57,12 +57,12 @@ fn heard_pair(ranks: &[u8; 256], table: &[u16; 256], first: u16, second: u16) ->
 
 // The four delays in twelfths that a record's four indices mean.
 pub fn heard(codes: [u16; 4]) -> [u16; 4]
-    ensures { λ r. ⌜ r ≡ heardOf codes ⌝ }
+    ensures { λ r. ⌜ r ≡ meantBy codes ⌝ }
 {
     let ranks = ranks_by_byte();
     let table = twelfths_by_rank();
-    let early = heard_pair(&ranks, &table, codes[0], codes[1]);
-    let late = heard_pair(&ranks, &table, codes[2], codes[3]);
+    let early = meant_pair(&ranks, &table, codes[0], codes[1]);
+    let late = meant_pair(&ranks, &table, codes[2], codes[3]);
     [early[0], early[1], late[0], late[1]]
 }
 

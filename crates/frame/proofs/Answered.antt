@@ -17,7 +17,7 @@ use Rattle.record.specs.Fields.{tooLarge}
 use Rattle.record.specs.declared.Record.{Record}
 use Rattle.frame.specs.Places.{fieldAt, bitIn}
 use Rattle.frame.specs.Parity.{guardedPlace, check, numberOf, number, mended}
-use Rattle.frame.specs.Frame.{bitAt, packed, valueOf, recordOf, sent, withParity, parityOf, frameOf}
+use Rattle.frame.specs.Frame.{bitAt, packed, indexIn, recordOf, sent, withParity, parityOf, frameOf}
 use Rattle.frame.specs.Answers.{recordMark, noRecord, readIn, readingOf, writtenOf, leftBy, frameLeft}
 use Rattle.frame.specs.Steps.{mendedFields, recordBy, fieldsOf}
 use Rattle.frame.specs.declared.Reading.{Reading}
@@ -45,7 +45,7 @@ unfolding readingOf
 read-refused s e = rw (ne-eqb (length s) 18 e)
 
 -- the steps of reading
-module _ (s v : List ℕ) (n : ℕ) (gathered : v ≡ tabulate (valueOf (bitAt s)) 29) (numbered : n ≡ numberOf (guardedBits v)) where
+module _ (s v : List ℕ) (n : ℕ) (gathered : v ≡ tabulate (indexIn (bitAt s)) 29) (numbered : n ≡ numberOf (guardedBits v)) where
   pub number-is : n ≡ number (bitAt s)
   number-is = numbered ∙ ap (λ (l : List ℕ). numberOf (guardedBits l)) gathered ∙ number-of-fields (bitAt s) (bitAt-small s)
 
@@ -62,7 +62,7 @@ module _ (s v : List ℕ) (n : ℕ) (gathered : v ≡ tabulate (valueOf (bitAt s
       same : r ≡ recordOf (mended (bitAt s))
       same =
           recorded ∙ ap recordBy mended-is ∙ ap (λ (l : List ℕ). recordBy (mendedFields l n)) gathered
-          ∙ ap (λ (k : ℕ). recordBy (mendedFields (tabulate (valueOf (bitAt s)) 29) k)) number-is
+          ∙ ap (λ (k : ℕ). recordBy (mendedFields (tabulate (indexIn (bitAt s)) 29) k)) number-is
           ∙ record-read (bitAt s) (bitAt-small s)
 
 -- the answers of writing, lowest refusal first

@@ -14,7 +14,7 @@ use Rattle.laws.proofs.Bits.{fromBits-lt, bit-fromBits}
 use Rattle.laws.proofs.Collected.{Scattered, collected}
 use Rattle.frame.specs.Places.{Name, places, fieldOf, bitOf, fieldAt, bitIn, bitsIn, seek, placeOf}
 use Rattle.frame.specs.Places.Name.{HP}
-use Rattle.frame.specs.Frame.{valueOf}
+use Rattle.frame.specs.Frame.{indexIn}
 use Rattle.frame.proofs.Places.{length-places, field-below, bit-in-field}
 
 -- the test at one place: its bit has no earlier place
@@ -88,12 +88,12 @@ scattered f h =
 
 -- an index read is the number with the bits at the field's places
 module _ (b : ℕ → ℕ) (f : ℕ) (h : f < 29) where
-  pub value-collected : valueOf b f ≡ fromBits (λ i. b (placeOf f i)) (bitsIn f)
-  unfolding valueOf
+  pub value-collected : indexIn b f ≡ fromBits (λ i. b (placeOf f i)) (bitsIn f)
+  unfolding indexIn
   value-collected = collected (scattered f h) b
 
-  pub value-small : ((p : ℕ) → b p < 2) → valueOf b f < 2 ^ bitsIn f
+  pub value-small : ((p : ℕ) → b p < 2) → indexIn b f < 2 ^ bitsIn f
   value-small bits = rw value-collected (fromBits-lt (λ i. b (placeOf f i)) (bitsIn f) (λ i l. bits (placeOf f i)))
 
-  pub value-bit : ((p : ℕ) → b p < 2) → (i : ℕ) → i < bitsIn f → bit (valueOf b f) i ≡ b (placeOf f i)
+  pub value-bit : ((p : ℕ) → b p < 2) → (i : ℕ) → i < bitsIn f → bit (indexIn b f) i ≡ b (placeOf f i)
   value-bit bits i l = rw value-collected (bit-fromBits (λ i. b (placeOf f i)) (bitsIn f) i (λ k m. bits (placeOf f k)) l)

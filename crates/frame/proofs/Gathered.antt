@@ -18,7 +18,7 @@ use Rattle.laws.specs.Tabulate.{tabulate}
 use Rattle.laws.proofs.Total.{total-more, total-most}
 use Rattle.laws.proofs.Filled.{filled-all}
 use Rattle.frame.specs.Places.{fieldAt, bitIn}
-use Rattle.frame.specs.Frame.{bitAt, share, valueOf}
+use Rattle.frame.specs.Frame.{bitAt, share, indexIn}
 use Rattle.frame.specs.Steps.{entries}
 use Rattle.frame.proofs.Places.{next, field-below, bit-below, entry-field, entry-bit}
 
@@ -94,10 +94,10 @@ module _ (b : ℕ → ℕ) (bits : (p : ℕ) → b p < 2) where
             ∙ g .here f l
             ∙ sym (total-more (share b f) p ∙ rw (ne-eqb (fieldAt (p + 1)) f (λ w. e (sym w))) (omega arith))
 
-  pub gathered-all : {p : ℕ} {v : List ℕ} → 144 ≤ p → Gathered p v → v ≡ tabulate (valueOf b) 29
-  unfolding valueOf
+  pub gathered-all : {p : ℕ} {v : List ℕ} → 144 ≤ p → Gathered p v → v ≡ tabulate (indexIn b) 29
+  unfolding indexIn
   gathered-all {p} {v} h g =
-      filled-all 0 (valueOf b) 29 v
+      filled-all 0 (indexIn b) 29 v
       (record { long = g .long; upto = omega arith; here = λ f l. g .here f l ∙ ap (total (share b f)) (omega (arith, g .upto)) })
 
 -- a turn as the code takes it: the entry at p, the bit shifted to its weight

@@ -21,7 +21,7 @@ use Rattle.record.specs.declared.Record.{Record}
 use Rattle.record.proofs.Laws.{index-given}
 use Rattle.frame.specs.Places.{fieldAt, bitIn, bitsIn, placeOf}
 use Rattle.frame.specs.Parity.{guardedPlace, check, number, inverted, mended}
-use Rattle.frame.specs.Frame.{byteOf, shiftOf, bitAt, packed, share, valueOf, recordOf, sent, withParity, parityOf}
+use Rattle.frame.specs.Frame.{byteOf, shiftOf, bitAt, packed, share, indexIn, recordOf, sent, withParity, parityOf}
 use Rattle.frame.proofs.Fields.{value-collected, value-bit, field-small, bit-small, place-of-here, field-of-place, bit-of-place}
 use Rattle.frame.proofs.Mended.{guardedField, guardedBit, guarded-first, guarded-last, field-of-guarded, bit-of-guarded, guarded-apart, mended-same, mended-there}
 
@@ -79,19 +79,19 @@ module _ (b c : ℕ → ℕ) (same : (p : ℕ) → 1 ≤ p → p ≤ 144 → b p
       (total-cong (λ n. bit n i * b (guardedPlace n)) (λ n. bit n i * c (guardedPlace n)) 15
       (λ n a h. ap (λ (x : ℕ). bit n i * x) (same (guardedPlace n) (guarded-first n a h) (guarded-last n a h)))))
 
-  pub value-cong : (f : ℕ) → valueOf b f ≡ valueOf c f
-  unfolding valueOf
+  pub value-cong : (f : ℕ) → indexIn b f ≡ indexIn c f
+  unfolding indexIn
   value-cong f =
       total-cong (share b f) (share c f) 144 (λ p a h. ap (λ (x : ℕ). cond (eqb (fieldAt p) f) (x * 2 ^ bitIn p) 0) (same p a h))
 
   pub record-cong : recordOf b ≡ recordOf c
   record-cong = λ i. record { lsp = parameters i; subframes = indices i; sp = value-cong 27 i; sy = value-cong 28 i }
     where
-      parameters : tabulate (λ k. valueOf b (k + 1)) 10 ≡ tabulate (λ k. valueOf c (k + 1)) 10
-      parameters = tabulate-cong (λ k. valueOf b (k + 1)) (λ k. valueOf c (k + 1)) 10 (λ k h. value-cong (k + 1))
+      parameters : tabulate (λ k. indexIn b (k + 1)) 10 ≡ tabulate (λ k. indexIn c (k + 1)) 10
+      parameters = tabulate-cong (λ k. indexIn b (k + 1)) (λ k. indexIn c (k + 1)) 10 (λ k h. value-cong (k + 1))
 
-      indices : tabulate (λ k. valueOf b (k + 11)) 16 ≡ tabulate (λ k. valueOf c (k + 11)) 16
-      indices = tabulate-cong (λ k. valueOf b (k + 11)) (λ k. valueOf c (k + 11)) 16 (λ k h. value-cong (k + 11))
+      indices : tabulate (λ k. indexIn b (k + 11)) 16 ≡ tabulate (λ k. indexIn c (k + 11)) 16
+      indices = tabulate-cong (λ k. indexIn b (k + 11)) (λ k. indexIn c (k + 11)) 16 (λ k h. value-cong (k + 11))
 
   pub mended-cong : (p : ℕ) → 1 ≤ p → p ≤ 144 → mended b p ≡ mended c p
   unfolding mended
@@ -100,7 +100,7 @@ module _ (b c : ℕ → ℕ) (same : (p : ℕ) → 1 ≤ p → p ≤ 144 → b p
       ∙ ap (λ (n : ℕ). cond (eqb p (guardedPlace n)) (inverted (c p)) (c p)) number-cong
 
 -- an index that fits its field is read as it was sent
-pub value-sent : (v : ℕ → ℕ) (f : ℕ) → f < 29 → v f < 2 ^ bitsIn f → valueOf (sent v) f ≡ v f
+pub value-sent : (v : ℕ → ℕ) (f : ℕ) → f < 29 → v f < 2 ^ bitsIn f → indexIn (sent v) f ≡ v f
 unfolding sent
 value-sent v f h fits =
     value-collected (sent v) f h
@@ -241,8 +241,8 @@ written-clean r =
     omega (arith, o, z))
 
 -- what is read in the bits b: the index in each field of the record
-pub index-of-record : (b : ℕ → ℕ) (f : ℕ) → 1 ≤ f → f ≤ 28 → indexOf (recordOf b) f ≡ valueOf b f
-index-of-record b f a l = index-given (valueOf b) f a l
+pub index-of-record : (b : ℕ → ℕ) (f : ℕ) → 1 ≤ f → f ≤ 28 → indexOf (recordOf b) f ≡ indexIn b f
+index-of-record b f a l = index-given (indexIn b) f a l
 
 -- a field's width is the record's
 pub bits-width : (f : ℕ) → 1 ≤ f → bitsIn f ≡ widthOf f
@@ -250,26 +250,26 @@ bits-width zero a = absurd (omega arith)
 bits-width (suc k) a = rw (sub-one (suc k))
 
 -- any bits are what is sent for the record in them and the parity in them
-pub as-sent : (b : ℕ → ℕ) → ((p : ℕ) → b p < 2) → (p : ℕ) → 1 ≤ p → p ≤ 144 → b p ≡ sent (withParity (recordOf b) (valueOf b 0)) p
+pub as-sent : (b : ℕ → ℕ) → ((p : ℕ) → b p < 2) → (p : ℕ) → 1 ≤ p → p ≤ 144 → b p ≡ sent (withParity (recordOf b) (indexIn b 0)) p
 unfolding sent
 as-sent b bits p a l =
     sym (ap (λ (x : ℕ). bit x (bitIn p)) (index (ℕ-discrete (fieldAt p) 0))
     ∙ value-bit b (fieldAt p) (field-small p a l) bits (bitIn p) (bit-small p a l)
     ∙ ap b (place-of-here p a l))
   where
-    index : Dec (fieldAt p ≡ 0) → withParity (recordOf b) (valueOf b 0) (fieldAt p) ≡ valueOf b (fieldAt p)
-    index (yes e) = rw (eq-eqb (fieldAt p) 0 e) (ap (valueOf b) (sym e))
+    index : Dec (fieldAt p ≡ 0) → withParity (recordOf b) (indexIn b 0) (fieldAt p) ≡ indexIn b (fieldAt p)
+    index (yes e) = rw (eq-eqb (fieldAt p) 0 e) (ap (indexIn b) (sym e))
     index (no e) =
         rw (ne-eqb (fieldAt p) 0 e) (index-of-record b (fieldAt p) (omega (arith, e)) (let h = field-small p a l in omega (arith, h)))
 
 -- the parity in the bits, from the record in them and the number
 pub parity-told : (b : ℕ → ℕ) → ((p : ℕ) → b p < 2) → (i : ℕ) → i < 4
-    → check (guardedOf b) i ≡ (bit (parityOf (recordOf b)) i + bit (valueOf b 0) i) % 2
+    → check (guardedOf b) i ≡ (bit (parityOf (recordOf b)) i + bit (indexIn b 0) i) % 2
 parity-told b bits i l =
     ap (λ (k : ℕ). k % 2)
-    (total-cong (λ n. bit n i * b (guardedPlace n)) (λ n. bit n i * sent (withParity (recordOf b) (valueOf b 0)) (guardedPlace n)) 15
+    (total-cong (λ n. bit n i * b (guardedPlace n)) (λ n. bit n i * sent (withParity (recordOf b) (indexIn b 0)) (guardedPlace n)) 15
     (λ n a m. ap (λ (x : ℕ). bit n i * x) (as-sent b bits (guardedPlace n) (guarded-first n a m) (guarded-last n a m))))
-    ∙ check-sent (recordOf b) (valueOf b 0) i l
+    ∙ check-sent (recordOf b) (indexIn b 0) i l
 
 -- flips in the guarded places: none but one
 module _ (e : ℕ → ℕ) (bits : (p : ℕ) → e p < 2) (m : ℕ) (a : 1 ≤ m) (l : m ≤ 15)

@@ -22,7 +22,7 @@ use Rattle.laws.proofs.Bits.{fromBits-lt, fromBits-cong, same-bits, bit-xor, bi
 use Rattle.frame.specs.Places.{Name, fieldOf, bitOf, fieldAt, bitIn, bitsIn, placeOf}
 use Rattle.frame.specs.Places.Name.{HP}
 use Rattle.frame.specs.Parity.{guarded, guardedName, guardedPlace, check, numberOf, number, inverted, mended}
-use Rattle.frame.specs.Frame.{share, valueOf, recordOf}
+use Rattle.frame.specs.Frame.{share, indexIn, recordOf}
 use Rattle.frame.specs.Steps.{guardedEntries, inverting, mendedFields, recordBy}
 use Rattle.frame.proofs.Fields.{value-small, value-bit, place-first, place-last, field-of-place, bit-of-place}
 use Rattle.frame.proofs.Number.{guardedBits}
@@ -149,10 +149,10 @@ module _ (b : ℕ → ℕ) (bits : (p : ℕ) → b p < 2) where
 
   -- the indices in the frame, by field
   abbrev v : List ℕ
-  v = tabulate (valueOf b) 29
+  v = tabulate (indexIn b) 29
 
-  at-field : (f : ℕ) → f < 29 → getD v f 0 ≡ valueOf b f
-  at-field f h = getD-tabulate (valueOf b) 0 29 f h
+  at-field : (f : ℕ) → f < 29 → getD v f 0 ≡ indexIn b f
+  at-field f h = getD-tabulate (indexIn b) 0 29 f h
 
   -- the guarded bits of the list of indices are those of the frame
   guarded-bits : (n : ℕ) → 1 ≤ n → n ≤ 15 → guardedBits v n ≡ b (guardedPlace n)
@@ -170,8 +170,8 @@ module _ (b : ℕ → ℕ) (bits : (p : ℕ) → b p < 2) where
       (total-cong (λ n. bit n i * guardedBits v n) (λ n. bit n i * b (guardedPlace n)) 15 (λ n a l. ap (λ (x : ℕ). bit n i * x) (guarded-bits n a l))))
 
   -- a field away from the mended place keeps its index
-  away : (f : ℕ) → ((q : ℕ) → 1 ≤ q → q ≤ 144 → fieldAt q ≡ f → q ≡ guardedPlace (number b) → ⊥) → valueOf b f ≡ valueOf (mended b) f
-  unfolding valueOf
+  away : (f : ℕ) → ((q : ℕ) → 1 ≤ q → q ≤ 144 → fieldAt q ≡ f → q ≡ guardedPlace (number b) → ⊥) → indexIn b f ≡ indexIn (mended b) f
+  unfolding indexIn
   away f e = total-cong (share b f) (share (mended b) f) 144 (λ q a l. go q a l (ℕ-discrete (fieldAt q) f))
     where
       go : (q : ℕ) → 1 ≤ q → q ≤ 144 → Dec (fieldAt q ≡ f) → share b f q ≡ share (mended b) f q
@@ -193,9 +193,9 @@ module _ (b : ℕ → ℕ) (bits : (p : ℕ) → b p < 2) where
     K = guardedBit (number b)
 
     -- the bits of the field that holds the mended bit
-    mended-bit : (i : ℕ) → i < bitsIn F → bit (bitXor (valueOf b F) (2 ^ K)) i ≡ bit (valueOf (mended b) F) i
+    mended-bit : (i : ℕ) → i < bitsIn F → bit (bitXor (indexIn b F) (2 ^ K)) i ≡ bit (indexIn (mended b) F) i
     mended-bit i l =
-        bit-xor (valueOf b F) (2 ^ K) i
+        bit-xor (indexIn b F) (2 ^ K) i
         ∙ ap (λ (x : ℕ). (x + bit (2 ^ K) i) % 2) (value-bit b F (guarded-field-small (number b) a h) bits i l)
         ∙ go (ℕ-discrete i K)
         ∙ sym (value-bit (mended b) F (guarded-field-small (number b) a h) mended-bits i l)
@@ -215,17 +215,17 @@ module _ (b : ℕ → ℕ) (bits : (p : ℕ) → b p < 2) where
                 ∙ ap bitIn (w ∙ guarded-place (number b) a h)
                 ∙ bit-of-place F K (guarded-field-small (number b) a h) (guarded-bit-small (number b) a h))
 
-    mended-value : bitXor (valueOf b F) (2 ^ K) ≡ valueOf (mended b) F
+    mended-value : bitXor (indexIn b F) (2 ^ K) ≡ indexIn (mended b) F
     mended-value =
-        same-bits (bitsIn F) (bitXor (valueOf b F) (2 ^ K)) (valueOf (mended b) F)
-        (xor-lt (bitsIn F) (valueOf b F) (2 ^ K) (value-small b F (guarded-field-small (number b) a h) bits) (pow-lt (guarded-bit-small (number b) a h)))
+        same-bits (bitsIn F) (bitXor (indexIn b F) (2 ^ K)) (indexIn (mended b) F)
+        (xor-lt (bitsIn F) (indexIn b F) (2 ^ K) (value-small b F (guarded-field-small (number b) a h) bits) (pow-lt (guarded-bit-small (number b) a h)))
         (value-small (mended b) F (guarded-field-small (number b) a h) mended-bits)
         mended-bit
 
-    at-mended : (f : ℕ) → f < 29 → Dec (f ≡ F) → getD (set v F (bitXor (getD v F 0) (2 ^ K))) f 0 ≡ valueOf (mended b) f
+    at-mended : (f : ℕ) → f < 29 → Dec (f ≡ F) → getD (set v F (bitXor (getD v F 0) (2 ^ K))) f 0 ≡ indexIn (mended b) f
     at-mended f l (yes e) =
         rw e
-        (getD-set-same v F (bitXor (getD v F 0) (2 ^ K)) 0 (rw (length-tabulate (valueOf b) 29) (guarded-field-small (number b) a h))
+        (getD-set-same v F (bitXor (getD v F 0) (2 ^ K)) 0 (rw (length-tabulate (indexIn b) 29) (guarded-field-small (number b) a h))
         ∙ ap (λ (x : ℕ). bitXor x (2 ^ K)) (at-field F (guarded-field-small (number b) a h))
         ∙ mended-value)
     at-mended f l (no e) =
@@ -233,11 +233,11 @@ module _ (b : ℕ → ℕ) (bits : (p : ℕ) → b p < 2) where
         ∙ away f (λ q p r o w. e (sym o ∙ ap fieldAt w ∙ field-of-guarded (number b) a h))
 
   -- the mended list of indices holds the indices of the mended bits
-  pub mended-fields : (f : ℕ) → f < 29 → getD (mendedFields v (number b)) f 0 ≡ valueOf (mended b) f
+  pub mended-fields : (f : ℕ) → f < 29 → getD (mendedFields v (number b)) f 0 ≡ indexIn (mended b) f
   unfolding mendedFields
   mended-fields f l = go (ℕ-discrete (number b) 0)
     where
-      go : Dec (number b ≡ 0) → getD (cond (eqb (number b) 0) v (inverting v (getD guardedEntries (number b - 1) 0))) f 0 ≡ valueOf (mended b) f
+      go : Dec (number b ≡ 0) → getD (cond (eqb (number b) 0) v (inverting v (getD guardedEntries (number b - 1) 0))) f 0 ≡ indexIn (mended b) f
       go (yes e) = rw (eq-eqb (number b) 0 e) (at-field f l ∙ away f (λ q p r o w. none-at-zero e q p w))
       go (no e) =
           rw (ne-eqb (number b) 0 e)
@@ -250,8 +250,8 @@ module _ (b : ℕ → ℕ) (bits : (p : ℕ) → b p < 2) where
   pub record-read : recordBy (mendedFields v (number b)) ≡ recordOf (mended b)
   record-read = λ i. record { lsp = parameters i; subframes = indices i; sp = mended-fields 27 (omega arith) i; sy = mended-fields 28 (omega arith) i }
     where
-      parameters : tabulate (λ k. getD (mendedFields v (number b)) (k + 1) 0) 10 ≡ tabulate (λ k. valueOf (mended b) (k + 1)) 10
-      parameters = tabulate-cong (λ k. getD (mendedFields v (number b)) (k + 1) 0) (λ k. valueOf (mended b) (k + 1)) 10 (λ k l. mended-fields (k + 1) (omega arith))
+      parameters : tabulate (λ k. getD (mendedFields v (number b)) (k + 1) 0) 10 ≡ tabulate (λ k. indexIn (mended b) (k + 1)) 10
+      parameters = tabulate-cong (λ k. getD (mendedFields v (number b)) (k + 1) 0) (λ k. indexIn (mended b) (k + 1)) 10 (λ k l. mended-fields (k + 1) (omega arith))
 
-      indices : tabulate (λ k. getD (mendedFields v (number b)) (k + 11) 0) 16 ≡ tabulate (λ k. valueOf (mended b) (k + 11)) 16
-      indices = tabulate-cong (λ k. getD (mendedFields v (number b)) (k + 11) 0) (λ k. valueOf (mended b) (k + 11)) 16 (λ k l. mended-fields (k + 11) (omega arith))
+      indices : tabulate (λ k. getD (mendedFields v (number b)) (k + 11) 0) 16 ≡ tabulate (λ k. indexIn (mended b) (k + 11)) 16
+      indices = tabulate-cong (λ k. getD (mendedFields v (number b)) (k + 11) 0) (λ k. indexIn (mended b) (k + 11)) 16 (λ k l. mended-fields (k + 11) (omega arith))

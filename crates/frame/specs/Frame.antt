@@ -30,17 +30,17 @@ packed b = tabulate (λ k. fromBits (λ i. b (8 * k + 8 - i)) 8) 18
 abbrev pub share : (ℕ → ℕ) → ℕ → ℕ → ℕ
 share b f p = cond (eqb (fieldAt p) f) (b p * 2 ^ bitIn p) 0
 
-unfoldable pub valueOf : (ℕ → ℕ) → ℕ → ℕ
-valueOf b f = total (share b f) 144
+unfoldable pub indexIn : (ℕ → ℕ) → ℕ → ℕ
+indexIn b f = total (share b f) 144
 
 -- the record in the bits b
 abbrev pub recordOf : (ℕ → ℕ) → Record
 recordOf b =
     record {
-      lsp = tabulate (λ k. valueOf b (k + 1)) 10;
-      subframes = tabulate (λ k. valueOf b (k + 11)) 16;
-      sp = valueOf b 27;
-      sy = valueOf b 28;
+      lsp = tabulate (λ k. indexIn b (k + 1)) 10;
+      subframes = tabulate (λ k. indexIn b (k + 11)) 16;
+      sp = indexIn b 27;
+      sy = indexIn b 28;
     }
 
 -- the bits sent for the indices v, field by field, the parity bits under 0

@@ -8,7 +8,7 @@ ghost use lib.ListN.{length, getD};
 ghost use Rattle.laws.specs.Tabulate.{tabulate};
 ghost use Rattle.laws.specs.Total.{fromBits};
 ghost use Rattle.frame.specs.Parity.{numberOf};
-ghost use Rattle.frame.specs.Frame.{bitAt, packed, valueOf, sent};
+ghost use Rattle.frame.specs.Frame.{bitAt, packed, indexIn, sent};
 ghost use Rattle.frame.specs.Answers.{readingOf, writtenOf, frameLeft, recordMark};
 ghost use Rattle.frame.specs.Steps.{entries, guardedEntries, bitOfEntry, mendedFields, recordBy, fieldsOf};
 
@@ -280,7 +280,7 @@ fn guarded() -> [u16; 15]
 // The indices in a frame, uncorrected, by field number.
 fn gather(frame: &[u8]) -> [u16; 29]
     requires { ⌜ length (now frame) ≡ 18 ⌝ }
-    ensures { λ r. ⌜ r ≡ tabulate (valueOf (bitAt (now (frame .entry)))) 29 ⌝ }
+    ensures { λ r. ⌜ r ≡ tabulate (indexIn (bitAt (now (frame .entry)))) 29 ⌝ }
 {
     let table = table();
     let mut fields = [0u16; 29];

@@ -24,20 +24,20 @@ use Rattle.frame.specs.declared.Verdict.{Verdict}
 use Rattle.frame.specs.declared.Verdict.the-variants as Verdict
 use Rattle.frame.specs.declared.Written.{Written}
 use Rattle.frame.specs.declared.Written.the-variants as Written
-use Rattle.gateway.specs.Pairs.{byteOf, bytesOf, indexIn, recordIn}
+use Rattle.gateway.specs.Pairs.{recordByte, bytesOf, pairIn, recordIn}
 use Rattle.gateway.specs.Results.{refused, readAnswer, readResult, writeResult}
 use Rattle.gateway.proofs.Pairs.{low-byte, high-byte}
 
 pub length-bytes : (r : Record) → length (bytesOf r) ≡ 56
 unfolding bytesOf
-length-bytes r = length-tabulate (byteOf r) 56
+length-bytes r = length-tabulate (recordByte r) 56
 
-pub byte-at : (r : Record) (i : ℕ) → i < 56 → getD (bytesOf r) i 0 ≡ byteOf r i
+pub byte-at : (r : Record) (i : ℕ) → i < 56 → getD (bytesOf r) i 0 ≡ recordByte r i
 unfolding bytesOf
-byte-at r i h = getD-tabulate (byteOf r) 0 56 i h
+byte-at r i h = getD-tabulate (recordByte r) 0 56 i h
 
 -- the bytes of a record hold its indices
-pub index-of-bytes : (r : Record) (f : ℕ) → 1 ≤ f → f ≤ 28 → indexIn (bytesOf r) f ≡ indexOf r f
+pub index-of-bytes : (r : Record) (f : ℕ) → 1 ≤ f → f ≤ 28 → pairIn (bytesOf r) f ≡ indexOf r f
 unfolding pairAt
 index-of-bytes r f a b =
     let low : getD (bytesOf r) (2 * (f - 1)) 0 ≡ indexOf r (f - 1 + 1) % 256 = byte-at r (2 * (f - 1)) (omega arith) ∙ low-byte r (f - 1) in
@@ -51,12 +51,12 @@ index-of-bytes r f a b =
 -- so a record comes back out of its bytes
 pub record-of-bytes : (r : Record) → length (r .lsp) ≡ 10 → length (r .subframes) ≡ 16 → recordIn (bytesOf r) ≡ r
 unfolding recordIn
-record-of-bytes r ten sixteen = record-is r (indexIn (bytesOf r)) ten sixteen (index-of-bytes r)
+record-of-bytes r ten sixteen = record-is r (pairIn (bytesOf r)) ten sixteen (index-of-bytes r)
 
 -- so the record in 56 bytes has the indices in them
-pub index-in-record : (s : List ℕ) (f : ℕ) → 1 ≤ f → f ≤ 28 → indexOf (recordIn s) f ≡ indexIn s f
+pub index-in-record : (s : List ℕ) (f : ℕ) → 1 ≤ f → f ≤ 28 → indexOf (recordIn s) f ≡ pairIn s f
 unfolding recordIn
-index-in-record s f a b = index-given (indexIn s) f a b
+index-in-record s f a b = index-given (pairIn s) f a b
 
 -- every 56 bytes are a record's
 pub bytes-of-record : (s : List ℕ) → length s ≡ 56 → ((i : ℕ) → i < 56 → getD s i 0 < 256) → bytesOf (recordIn s) ≡ s
@@ -69,7 +69,7 @@ bytes-of-record s long bytes =
     index : (i : ℕ) → i < 56 → indexOf (recordIn s) (i / 2 + 1) ≡ pairAt s (2 * (i / 2 + 1 - 1))
     index i l = index-in-record s (i / 2 + 1) (omega arith) (omega arith)
 
-    half : (i : ℕ) → i < 56 → Dec (i % 2 ≡ 0) → byteOf (recordIn s) i ≡ getD s i 0
+    half : (i : ℕ) → i < 56 → Dec (i % 2 ≡ 0) → recordByte (recordIn s) i ≡ getD s i 0
     half i l (yes e) =
         let at : 2 * (i / 2 + 1 - 1) ≡ i = omega arith in
         let whole : indexOf (recordIn s) (i / 2 + 1) ≡ getD s i 0 + 256 * getD s (i + 1) 0 = index i l ∙ ap (pairAt s) at in

@@ -12,11 +12,11 @@ use Rattle.laws.proofs.Filled.{Filled, filled-more, filled-done}
 use Rattle.record.specs.Fields.{indexOf}
 use Rattle.record.specs.declared.Record.{Record}
 use Rattle.record.proofs.Laws.{index-parameter, index-subframe}
-use Rattle.gateway.specs.Pairs.{withPair, byteOf, bytesOf, indexIn, recordIn}
+use Rattle.gateway.specs.Pairs.{withPair, recordByte, bytesOf, pairIn, recordIn}
 
 module _ (r : Record) where
   -- the two bytes of a pair
-  pub low-byte : (f : ℕ) → byteOf r (2 * f) ≡ indexOf r (f + 1) % 256
+  pub low-byte : (f : ℕ) → recordByte r (2 * f) ≡ indexOf r (f + 1) % 256
   low-byte f =
       rw (eq-eqb (2 * f % 2) 0 (omega arith))
       (ap (λ (k : ℕ). indexOf r (k + 1) % 256) half)
@@ -24,7 +24,7 @@ module _ (r : Record) where
       half : 2 * f / 2 ≡ f
       half = omega arith
 
-  pub high-byte : (f : ℕ) → byteOf r (2 * f + 1) ≡ indexOf r (f + 1) / 256
+  pub high-byte : (f : ℕ) → recordByte r (2 * f + 1) ≡ indexOf r (f + 1) / 256
   high-byte f =
       rw (ne-eqb ((2 * f + 1) % 2) 0 (λ e. omega arith))
       (ap (λ (k : ℕ). indexOf r (k + 1) / 256) half)
@@ -34,7 +34,7 @@ module _ (r : Record) where
 
   -- the first i bytes of a buffer are the record's
   abbrev pub Put : ℕ → List ℕ → Type 0
-  Put i out = Filled 0 (byteOf r) 56 i out
+  Put i out = Filled 0 (recordByte r) 56 i out
 
   -- fewer of them are, too
   pub put-fewer : {i : ℕ} (j : ℕ) {out : List ℕ} → Put i out → j ≤ i → Put j out
@@ -42,19 +42,19 @@ module _ (r : Record) where
 
   -- one pair more
   pub put-next : (f i x : ℕ) (out : List ℕ) → Put i out → i ≡ 2 * f → f < 28 → x ≡ indexOf r (f + 1) → Put (i + 2) (withPair out i x)
-  put-next f i x out p e h is = put-fewer (i + 2) (filled-more 0 (byteOf r) 56 (i + 1) _ (x / 256) low (omega arith) last) (omega arith)
+  put-next f i x out p e h is = put-fewer (i + 2) (filled-more 0 (recordByte r) 56 (i + 1) _ (x / 256) low (omega arith) last) (omega arith)
     where
-      first : x % 256 ≡ byteOf r i
-      first = ap (λ (k : ℕ). k % 256) is ∙ sym (low-byte f) ∙ ap (byteOf r) (sym e)
+      first : x % 256 ≡ recordByte r i
+      first = ap (λ (k : ℕ). k % 256) is ∙ sym (low-byte f) ∙ ap (recordByte r) (sym e)
 
       low : Put (i + 1) (set out i (x % 256))
-      low = filled-more 0 (byteOf r) 56 i out (x % 256) p (omega arith) first
+      low = filled-more 0 (recordByte r) 56 i out (x % 256) p (omega arith) first
 
       after : 2 * f + 1 ≡ i + 1
       after = omega arith
 
-      last : x / 256 ≡ byteOf r (i + 1)
-      last = ap (λ (k : ℕ). k / 256) is ∙ sym (high-byte f) ∙ ap (byteOf r) after
+      last : x / 256 ≡ recordByte r (i + 1)
+      last = ap (λ (k : ℕ). k / 256) is ∙ sym (high-byte f) ∙ ap (recordByte r) after
 
   pub put-lsp : {k : ℕ} {out next : List ℕ} → Put (2 * k) out → k < 10 → next ≡ withPair out (2 * k) (getD (r .lsp) k 0)
       → Put (2 * (k + 1)) next
@@ -77,24 +77,24 @@ module _ (r : Record) where
 
   pub put-whole : {out next : List ℕ} → Put 54 out → next ≡ withPair out 54 (r .sy) → next ≡ bytesOf r
   unfolding bytesOf
-  put-whole {out} p e = e ∙ filled-done 0 (byteOf r) 56 _ (omega arith) (put-next 27 54 (r .sy) out p refl (omega arith) refl)
+  put-whole {out} p e = e ∙ filled-done 0 (recordByte r) 56 _ (omega arith) (put-next 27 54 (r .sy) out p refl (omega arith) refl)
 
 module _ (s : List ℕ) where
   -- the first k parameters are taken, the first n subframe indices
   abbrev pub TakenLsp : ℕ → List ℕ → Type 0
-  TakenLsp k l = Filled 0 (λ (k : ℕ). indexIn s (k + 1)) 10 k l
+  TakenLsp k l = Filled 0 (λ (k : ℕ). pairIn s (k + 1)) 10 k l
 
   abbrev pub TakenSubframes : ℕ → List ℕ → Type 0
-  TakenSubframes n l = Filled 0 (λ (n : ℕ). indexIn s (n + 11)) 16 n l
+  TakenSubframes n l = Filled 0 (λ (n : ℕ). pairIn s (n + 11)) 16 n l
 
   pub take-lsp : {k x : ℕ} {l : List ℕ} → TakenLsp k l → k < 10 → x ≡ pairAt s (2 * k) → TakenLsp (k + 1) (set l k x)
-  take-lsp {k} {x} {l} p h is = filled-more 0 (λ (k : ℕ). indexIn s (k + 1)) 10 k l x p h (is ∙ ap (pairAt s) there)
+  take-lsp {k} {x} {l} p h is = filled-more 0 (λ (k : ℕ). pairIn s (k + 1)) 10 k l x p h (is ∙ ap (pairAt s) there)
     where
       there : 2 * k ≡ 2 * (k + 1 - 1)
       there = omega arith
 
   pub take-subframe : {n x : ℕ} {l : List ℕ} → TakenSubframes n l → n < 16 → x ≡ pairAt s (20 + 2 * n) → TakenSubframes (n + 1) (set l n x)
-  take-subframe {n} {x} {l} p h is = filled-more 0 (λ (n : ℕ). indexIn s (n + 11)) 16 n l x p h (is ∙ ap (pairAt s) there)
+  take-subframe {n} {x} {l} p h is = filled-more 0 (λ (n : ℕ). pairIn s (n + 11)) 16 n l x p h (is ∙ ap (pairAt s) there)
     where
       there : 20 + 2 * n ≡ 2 * (n + 11 - 1)
       there = omega arith
@@ -106,8 +106,8 @@ module _ (s : List ℕ) where
   take-whole {k} {n} {l} {t} a h b g p y ep ey =
       λ i. record { lsp = lsp i; subframes = subframes i; sp = ep i; sy = ey i }
     where
-      lsp : l ≡ tabulate (λ k. indexIn s (k + 1)) 10
-      lsp = filled-done 0 (λ (k : ℕ). indexIn s (k + 1)) 10 l h a
+      lsp : l ≡ tabulate (λ k. pairIn s (k + 1)) 10
+      lsp = filled-done 0 (λ (k : ℕ). pairIn s (k + 1)) 10 l h a
 
-      subframes : t ≡ tabulate (λ k. indexIn s (k + 11)) 16
-      subframes = filled-done 0 (λ (n : ℕ). indexIn s (n + 11)) 16 t g b
+      subframes : t ≡ tabulate (λ k. pairIn s (k + 11)) 16
+      subframes = filled-done 0 (λ (n : ℕ). pairIn s (n + 11)) 16 t g b

@@ -14,23 +14,23 @@ abbrev pub withPair : List ℕ → ℕ → ℕ → List ℕ
 withPair s i x = set (set s i (x % 256)) (i + 1) (x / 256)
 
 -- byte i of a record, from 0 on: of the pair of field i / 2 + 1 the lower half first
-abbrev pub byteOf : Record → ℕ → ℕ
-byteOf r i = cond (eqb (i % 2) 0) (indexOf r (i / 2 + 1) % 256) (indexOf r (i / 2 + 1) / 256)
+abbrev pub recordByte : Record → ℕ → ℕ
+recordByte r i = cond (eqb (i % 2) 0) (indexOf r (i / 2 + 1) % 256) (indexOf r (i / 2 + 1) / 256)
 
 -- the 56 bytes of a record
 unfoldable pub bytesOf : Record → List ℕ
-bytesOf r = tabulate (byteOf r) 56
+bytesOf r = tabulate (recordByte r) 56
 
 -- the index of field f in such bytes
-abbrev pub indexIn : List ℕ → ℕ → ℕ
-indexIn s f = pairAt s (2 * (f - 1))
+abbrev pub pairIn : List ℕ → ℕ → ℕ
+pairIn s f = pairAt s (2 * (f - 1))
 
 -- the record in 56 bytes
 unfoldable pub recordIn : List ℕ → Record
 recordIn s =
     record {
-      lsp = tabulate (λ k. indexIn s (k + 1)) 10;
-      subframes = tabulate (λ k. indexIn s (k + 11)) 16;
-      sp = indexIn s 27;
-      sy = indexIn s 28;
+      lsp = tabulate (λ k. pairIn s (k + 1)) 10;
+      subframes = tabulate (λ k. pairIn s (k + 11)) 16;
+      sp = pairIn s 27;
+      sy = pairIn s 28;
     }

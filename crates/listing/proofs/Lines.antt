@@ -6,7 +6,7 @@ use Prim.Native.Nat.{ℕ}
 use lib.ListN.{getD}
 use Rattle.record.specs.Fields.{tooLarge}
 use Rattle.record.specs.declared.Record.{Record}
-use Rattle.delays.specs.Codes.{heardOf}
+use Rattle.delays.specs.Codes.{meantBy}
 use Rattle.frame.specs.declared.Reading.{Reading}
 use Rattle.values.specs.Outcome.{refusalOf}
 use Rattle.values.specs.Values.{delaysOf}
@@ -60,7 +60,7 @@ refused-put o cause number place n l p q e =
 
 -- the four delays
 delays-four : (r : Record) → fields (getD (delaysOf r) 0 0 ∷ getD (delaysOf r) 1 0 ∷ getD (delaysOf r) 2 0 ∷ getD (delaysOf r) 3 0 ∷ []) ≡ fields (delaysOf r)
-unfolding delaysOf heardOf
+unfolding delaysOf meantBy
 delays-four r = refl
 
 -- the return of `put_delays`

@@ -19,7 +19,7 @@ use Rattle.text.specs.Laid.{laid}
 use Rattle.text.proofs.Laid.{put-then}
 use Rattle.listing.specs.Lines.{headLine, refusedLine}
 use Rattle.listing.specs.Listing.{bodyOf, textOf, listingOf, room, listedOf, listingLeft}
-use Rattle.listing.specs.Promised.{Fits}
+use Rattle.listing.specs.Promised.{ListingFits}
 use Rattle.listing.specs.declared.Listed.{Listed}
 use Rattle.listing.specs.declared.Listed.the-variants.{Text, WrongLength}
 use Rattle.listing.proofs.Puts.{Put, put-as, put-length}
@@ -44,7 +44,7 @@ laid-front o t h =
 module _ (s o : List ℕ) (bytes : (i : ℕ) → getD s i 0 < 256) (long : length o ≡ room) where
   -- the whole listing, laid at the start
   listed-whole : {end : ℕ} {o′ : List ℕ} → Put o 0 (listingOf s) end o′ → Answered s o (Text end) o′
-  unfolding listedOf listingLeft Fits
+  unfolding listedOf listingLeft ListingFits
   listed-whole {end} {o′} p =
       let f : length (listingOf s) ≤ room = listing-fits s bytes in
       let e : end ≡ length (listingOf s) = omega (arith, p .0) in

@@ -13,7 +13,7 @@ use Rattle.laws.specs.Bytes.{wordAt}
 use Rattle.laws.specs.Table.{both}
 use Rattle.laws.specs.Turns.{turns}
 use Rattle.record.specs.declared.Record.{Record}
-use Rattle.delays.specs.Codes.{heardOf}
+use Rattle.delays.specs.Codes.{meantBy}
 use Rattle.frame.specs.Answers.{readingOf}
 use Rattle.frame.specs.declared.Reading.{Reading}
 use Rattle.values.specs.Values.{delaysOf}
@@ -43,7 +43,7 @@ use Rattle.text.specs.Decimal.{decimal}
 use Rattle.text.proofs.Decimal.{decimal-most}
 use Rattle.listing.specs.Lines.{headLine, fields, frameLine, lastLine, placeOf, refusedLine}
 use Rattle.listing.specs.Listing.{linesFrom, bodyOf, textOf, listingOf, room}
-use Rattle.listing.specs.Promised.{Fits}
+use Rattle.listing.specs.Promised.{ListingFits}
 use Rattle.listing.proofs.Lines.{refused-line, heard-line}
 use Rattle.frame.proofs.Readings.{InRange, reading-range, reading-sync}
 
@@ -185,7 +185,7 @@ unfolding fields
 field-short n d a h = let l : length (decimal n) ≤ d = decimal-most n d a h in simp length-append (omega arith)
 
 delays-long : (r : Record) → length (delaysOf r) ≡ 4
-unfolding delaysOf heardOf
+unfolding delaysOf meantBy
 delays-long r = refl
 
 delays-short : (r : Record) → length (fields (delaysOf r)) ≤ 20
@@ -265,8 +265,8 @@ refused-short cause a =
 
 -- ---- the whole
 
-pub listing-fits : Fits
-unfolding Fits listingOf Told
+pub listing-fits : ListingFits
+unfolding ListingFits listingOf Told
 listing-fits s bytes = go (walkedOf s) refl (walked-told s bytes)
   where
     go : (w : Walked) → walkedOf s ≡ w → Told w → length (textOf w (framesOf s)) ≤ room

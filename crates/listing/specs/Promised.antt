@@ -8,8 +8,8 @@ use Rattle.listing.specs.Listing.{room, listingOf, listedOf, listingLeft
 use Rattle.listing.specs.declared.Listed.the-variants.{Text}
 
 -- the listing of any bytes fits the buffer, whole
-unfoldable pub Fits : Type 0
-Fits = (s : List ℕ) → ((i : ℕ) → getD s i 0 < 256) → length (listingOf s) ≤ room
+unfoldable pub ListingFits : Type 0
+ListingFits = (s : List ℕ) → ((i : ℕ) → getD s i 0 < 256) → length (listingOf s) ≤ room
 
 -- the text that is answered is the first bytes of the buffer, whole, and what stood after it stays
 unfoldable pub ListingStands : Type 0

@@ -15,7 +15,7 @@ use Rattle.frame.specs.declared.Verdict.the-variants as Verdict
 use Rattle.frame.specs.declared.Written.{Written}
 use Rattle.frame.specs.declared.Written.the-variants as Written
 use Rattle.frame.proofs.Answered.{read-eighteen}
-use Rattle.gateway.specs.Pairs.{bytesOf, indexIn, recordIn}
+use Rattle.gateway.specs.Pairs.{bytesOf, pairIn, recordIn}
 use Rattle.gateway.specs.Results.{refused, readResult, recordLeft, writeResult, frameLeftBy}
 use Rattle.gateway.proofs.Laws.{record-of-bytes, bytes-of-record}
 use Rattle.gateway.proofs.Ranges.{reading-apart}
@@ -86,7 +86,7 @@ boundary-reads-back s o p full room e = (
 )
   where
     shaped : Shaped (recordIn s)
-    shaped = record { parameters = length-tabulate (λ k. indexIn s (k + 1)) 10; indices = length-tabulate (λ k. indexIn s (k + 11)) 16 }
+    shaped = record { parameters = length-tabulate (λ k. pairIn s (k + 1)) 10; indices = length-tabulate (λ k. pairIn s (k + 11)) 16 }
 
     back : readingOf (frameLeftBy s o) ≡ record { verdict = Verdict.Read; indices = recordIn s; number = 0; mark = 0 }
     back = ap readingOf (left-is s o (full .long)) ∙ reads-back (recordIn s) o shaped (zero-is-frame s o (full .long) e)

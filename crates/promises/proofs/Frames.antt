@@ -18,7 +18,7 @@ use Rattle.record.specs.declared.Record.{Record}
 use Rattle.record.proofs.Laws.{none-too-large, all-fit-none-too-large, record-is}
 use Rattle.frame.specs.Places.{fieldAt, bitIn, bitsIn, placeOf, fieldOf, bitOf}
 use Rattle.frame.specs.Parity.{guardedName, guardedPlace, number, mended, inverted}
-use Rattle.frame.specs.Frame.{byteOf, shiftOf, bitAt, packed, valueOf, recordOf, sent, withParity, parityOf, frameOf}
+use Rattle.frame.specs.Frame.{byteOf, shiftOf, bitAt, packed, indexIn, recordOf, sent, withParity, parityOf, frameOf}
 use Rattle.frame.specs.Answers.{recordMark, readingOf, writtenOf}
 use Rattle.frame.specs.declared.Reading.{Reading}
 use Rattle.frame.specs.declared.Verdict.the-variants as Verdict
@@ -50,12 +50,12 @@ module _ (r : Record) where
 
   -- a record whose indices fit is read in the bits sent for it
   record-sent : Shaped r → tooLarge r ≡ 0 → recordOf bits-sent ≡ r
-  record-sent shaped fits = record-is r (valueOf bits-sent) (shaped .parameters) (shaped .indices) here
+  record-sent shaped fits = record-is r (indexIn bits-sent) (shaped .parameters) (shaped .indices) here
     where
       index : (f : ℕ) → 1 ≤ f → withParity r (parityOf r) f ≡ indexOf r f
       index f a = rw (ne-eqb f 0 (λ e. omega arith))
 
-      here : (f : ℕ) → 1 ≤ f → f ≤ 28 → valueOf bits-sent f ≡ indexOf r f
+      here : (f : ℕ) → 1 ≤ f → f ≤ 28 → indexIn bits-sent f ≡ indexOf r f
       here f a l =
           value-sent (withParity r (parityOf r)) f (omega arith)
           (rw (index f a, bits-width f a) (none-too-large r fits f a l))
@@ -101,9 +101,9 @@ module _ (s : List ℕ) (long : length s ≡ 18) where
       ∙ value-bit (mended (bitAt s)) f (omega arith) (mended-bits (bitAt s) (bitAt-small s)) i (rw (bits-width f a) w)
 
 -- clean bits have the parity of the record in them
-clean-parity : (b : ℕ → ℕ) → ((p : ℕ) → b p < 2) → number b ≡ 0 → parityOf (recordOf b) ≡ valueOf b 0
+clean-parity : (b : ℕ → ℕ) → ((p : ℕ) → b p < 2) → number b ≡ 0 → parityOf (recordOf b) ≡ indexIn b 0
 clean-parity b bits e =
-    same-bits 4 (parityOf (recordOf b)) (valueOf b 0) (parity-below (recordOf b)) (value-small b 0 (omega arith) bits)
+    same-bits 4 (parityOf (recordOf b)) (indexIn b 0) (parity-below (recordOf b)) (value-small b 0 (omega arith) bits)
     (λ i l. let t = parity-told b bits i l in
     let c = clean-check b e i l in
     omega (arith, t, c))
@@ -285,9 +285,9 @@ module _ (b c : ℕ → ℕ) (bits : (p : ℕ) → b p < 2) (bits′ : (p : ℕ)
       go (no w) = sym (mended-same b p w) ∙ mended-data p a l e ∙ mended-same c p (λ v. w (v ∙ ap guardedPlace (sym same-number)))
 
   -- so the records before correction are the same, and with the number so is the parity
-  value-same : (f : ℕ) → 1 ≤ f → f ≤ 28 → valueOf b f ≡ valueOf c f
+  value-same : (f : ℕ) → 1 ≤ f → f ≤ 28 → indexIn b f ≡ indexIn c f
   value-same f a l =
-      same-bits (bitsIn f) (valueOf b f) (valueOf c f) (value-small b f (omega arith) bits) (value-small c f (omega arith) bits′)
+      same-bits (bitsIn f) (indexIn b f) (indexIn c f) (value-small b f (omega arith) bits) (value-small c f (omega arith) bits′)
       (λ i h. value-bit b f (omega arith) bits i h ∙ data-same (placeOf f i) (place-first f i (omega arith) h) (place-last f i (omega arith) h) (apart i h)
       ∙ sym (value-bit c f (omega arith) bits′ i h))
     where
@@ -295,12 +295,12 @@ module _ (b c : ℕ → ℕ) (bits : (p : ℕ) → b p < 2) (bits′ : (p : ℕ)
       apart i h z = let g = field-of-place f i (omega arith) h in omega (arith, g, z)
 
   records-same : recordOf b ≡ recordOf c
-  records-same = record-is (recordOf c) (valueOf b) (length-tabulate (λ k. valueOf c (k + 1)) 10) (length-tabulate (λ k. valueOf c (k + 11)) 16)
+  records-same = record-is (recordOf c) (indexIn b) (length-tabulate (λ k. indexIn c (k + 1)) 10) (length-tabulate (λ k. indexIn c (k + 11)) 16)
       (λ f a l. value-same f a l ∙ sym (index-of-record c f a l))
 
-  parity-same : valueOf b 0 ≡ valueOf c 0
+  parity-same : indexIn b 0 ≡ indexIn c 0
   parity-same =
-      same-bits 4 (valueOf b 0) (valueOf c 0) (value-small b 0 (omega arith) bits) (value-small c 0 (omega arith) bits′)
+      same-bits 4 (indexIn b 0) (indexIn c 0) (value-small b 0 (omega arith) bits) (value-small c 0 (omega arith) bits′)
       (λ i l. let x = parity-told b bits i l in
       let y = parity-told c bits′ i l in
       let u = bit-number b i l in
@@ -312,7 +312,7 @@ module _ (b c : ℕ → ℕ) (bits : (p : ℕ) → b p < 2) (bits′ : (p : ℕ)
   all-same : (p : ℕ) → 1 ≤ p → p ≤ 144 → b p ≡ c p
   all-same p a l =
       as-sent b bits p a l
-      ∙ ap (λ (r : Record). sent (withParity r (valueOf b 0)) p) records-same
+      ∙ ap (λ (r : Record). sent (withParity r (indexIn b 0)) p) records-same
       ∙ ap (λ (h : ℕ). sent (withParity (recordOf c) h) p) parity-same
       ∙ sym (as-sent c bits′ p a l)
 

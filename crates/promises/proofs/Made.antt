@@ -14,7 +14,7 @@ use Rattle.blocks.specs.Blocks.{blockAt, part}
 use Rattle.blocks.specs.Walk.{pastHead, pastVoice, atStart, walkFrom, walkedOf}
 use Rattle.blocks.specs.Frames.{voiceSize, voicesFrom, payloadsOf, voiceBlockOf, framesIn, framesOf}
 use Rattle.recording.specs.Judged.{judgedBy, judgedOf}
-use Rattle.promises.specs.Parts.{laid}
+use Rattle.promises.specs.Parts.{blocksLong}
 use Rattle.promises.specs.Made.{pairBytes, wordBytes, block, voiceBlocks, made, MadeFrom, summaryOf, MadeIsSound, Bytes, SoundIsMade, NoTwo}
 use Rattle.blocks.specs.declared.Block.the-variants.{Head, Voice, End}
 use Rattle.blocks.specs.declared.Heading.{Heading}
@@ -366,27 +366,27 @@ module _ (s : List ℕ) (small : Bytes s) where
           ∙ ap (λ (x : List ℕ). part s (at + 6) size ++ x) (drop-drop size (at + 6) s)
 
   -- so with all voice blocks from a place on
-  voices-remade : (n at : ℕ) → length s - at < n → drop at s ≡ voiceBlocks (voicesFrom s at) ++ drop (at + laid (voicesFrom s at)) s
-  unfolding voiceBlocks laid
+  voices-remade : (n at : ℕ) → length s - at < n → drop at s ≡ voiceBlocks (voicesFrom s at) ++ drop (at + blocksLong (voicesFrom s at)) s
+  unfolding voiceBlocks blocksLong
   voices-remade zero at l = absurd (omega arith)
   voices-remade (suc n) at l = go (voiceSize s at) refl (ℕ-discrete (voiceSize s at) 0) (λ next m. voices-remade n next m)
     where
       go : (size : ℕ) → size ≡ voiceSize s at → Dec (size ≡ 0)
-          → ((next : ℕ) → length s - next < n → drop next s ≡ voiceBlocks (voicesFrom s next) ++ drop (next + laid (voicesFrom s next)) s)
-          → drop at s ≡ voiceBlocks (voicesFrom s at) ++ drop (at + laid (voicesFrom s at)) s
+          → ((next : ℕ) → length s - next < n → drop next s ≡ voiceBlocks (voicesFrom s next) ++ drop (next + blocksLong (voicesFrom s next)) s)
+          → drop at s ≡ voiceBlocks (voicesFrom s at) ++ drop (at + blocksLong (voicesFrom s at)) s
       go size e (yes z) further =
           ap (λ (k : ℕ). drop k s) (sym (add-zero at))
-          ∙ ap (λ (x : List (List ℕ)). voiceBlocks x ++ drop (at + laid x) s) (sym (voices-none s at size e z))
+          ∙ ap (λ (x : List (List ℕ)). voiceBlocks x ++ drop (at + blocksLong x) s) (sym (voices-none s at size e z))
       go size e (no z) further =
           let b = voice-bounds s at size e z in
           let k : length (part s (at + 6) size) ≡ size = length-take-le size (drop (at + 6) s) (simp length-drop (omega (arith, b .fits))) in
-          let j : at + 6 + size + laid (voicesFrom s (at + 6 + size)) ≡ at + (6 + length (part s (at + 6) size) + laid (voicesFrom s (at + 6 + size)))
+          let j : at + 6 + size + blocksLong (voicesFrom s (at + 6 + size)) ≡ at + (6 + length (part s (at + 6) size) + blocksLong (voicesFrom s (at + 6 + size)))
           = omega (arith, k) in
           block-remade at size 2 b
           ∙ ap (λ (x : List ℕ). block 2 (part s (at + 6) size) ++ x) (further (at + 6 + size) (omega (arith, b .fits)))
-          ∙ sym (append-assoc (block 2 (part s (at + 6) size)) (voiceBlocks (voicesFrom s (at + 6 + size))) (drop (at + 6 + size + laid (voicesFrom s (at + 6 + size))) s))
+          ∙ sym (append-assoc (block 2 (part s (at + 6) size)) (voiceBlocks (voicesFrom s (at + 6 + size))) (drop (at + 6 + size + blocksLong (voicesFrom s (at + 6 + size))) s))
           ∙ ap (λ (m : ℕ). (block 2 (part s (at + 6) size) ++ voiceBlocks (voicesFrom s (at + 6 + size))) ++ drop m s) j
-          ∙ ap (λ (x : List (List ℕ)). voiceBlocks x ++ drop (at + laid x) s) (sym (voices-more s at size e z))
+          ∙ ap (λ (x : List (List ℕ)). voiceBlocks x ++ drop (at + blocksLong x) s) (sym (voices-more s at size e z))
 
   -- a part of four bytes, and of twice four
   word-part : (at : ℕ) → at + 4 ≤ length s → part s at 4 ≡ wordBytes (wordAt s at)
@@ -426,7 +426,7 @@ module _ (s : List ℕ) (small : Bytes s) where
       over-end : drop (o .rest .stop + 6 + 4) s ≡ []
       over-end = let l : length s ≤ o .rest .stop + 6 + 4 = omega (arith, o .rest .last) in drop-of-length-le s l
 
-      tail : drop (14 + laid (voicesFrom s 14)) s ≡ block 3 (wordBytes (length (framesIn (payloadsOf s))))
+      tail : drop (14 + blocksLong (voicesFrom s 14)) s ≡ block 3 (wordBytes (length (framesIn (payloadsOf s))))
       tail =
           ap (λ (k : ℕ). drop k s) (sym (o .rest .from))
           ∙ block-remade (o .rest .stop) 4 3 (foot .0)

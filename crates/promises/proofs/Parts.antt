@@ -16,7 +16,7 @@ use Rattle.blocks.specs.Blocks.{blockAt, part}
 use Rattle.blocks.specs.Walk.{stepOf, walkFrom, walkedOf}
 use Rattle.blocks.specs.Frames.{voiceSize, voicesFrom, afterHead, ifWhole, payloadsOf, voiceBlockOf, cut, eighteens, framesIn, framesOf}
 use Rattle.recording.specs.Judged.{repairBy, repairedIn, breakBy, breaksFrom, judgedBy, judgedOf}
-use Rattle.promises.specs.Parts.{laid, placeOf, Stands, VoiceBlocksStand, joined, FramesAreAll, FramesAreLong, FramesFit, RefusedHasNone, EmptyRefused, EndCounts, frameAt, RepairsCounted, BreaksCounted}
+use Rattle.promises.specs.Parts.{blocksLong, payloadPlace, Stands, VoiceBlocksStand, joined, FramesAreAll, FramesAreLong, FramesFit, RefusedHasNone, EmptyRefused, EndCounts, frameAt, RepairsCounted, BreaksCounted}
 use Rattle.blocks.specs.declared.Cause.{Cause}
 use Rattle.blocks.specs.declared.Heading.{Heading}
 use Rattle.blocks.specs.declared.Walked.{Walked}
@@ -43,7 +43,7 @@ payloads-refused s cause e = ap (λ (w : Walked). ifWhole w (voicesFrom s afterH
 
 -- the k-th of these payloads is a part of the bytes, of whole frames, counted from a place on
 record Laid (s : List ℕ) (at : ℕ) (ps : List (List ℕ)) (k : ℕ) : Type 0 where
-  holds : getD ps k [] ≡ part s (at + laid (take k ps) + 6) (length (getD ps k []))
+  holds : getD ps k [] ≡ part s (at + blocksLong (take k ps) + 6) (length (getD ps k []))
   positive : 0 < length (getD ps k [])
   whole : length (getD ps k []) % 18 ≡ 0
 
@@ -53,7 +53,7 @@ module _ (s : List ℕ) (at size : ℕ) (t : Sized s at size) (ps : List (List �
 
   laid-first : Laid s at (part s (at + 6) size ∷ ps) 0
   laid-first =
-      let a : at + 6 ≡ at + laid [] + 6 = omega (arith, laid-none) in
+      let a : at + 6 ≡ at + blocksLong [] + 6 = omega (arith, laid-none) in
       record {
         holds = ap₂ (part s) a (sym long);
         positive = omega (arith, long, t .least);
@@ -62,7 +62,7 @@ module _ (s : List ℕ) (at size : ℕ) (t : Sized s at size) (ps : List (List �
 
   laid-later : (k : ℕ) → Laid s (at + 6 + size) ps k → Laid s at (part s (at + 6) size ∷ ps) (suc k)
   laid-later k q =
-      let a : at + 6 + size + laid (take k ps) + 6 ≡ at + laid (part s (at + 6) size ∷ take k ps) + 6
+      let a : at + 6 + size + blocksLong (take k ps) + 6 ≡ at + blocksLong (part s (at + 6) size ∷ take k ps) + 6
       = omega (arith, laid-more (part s (at + 6) size) (take k ps), long) in
       record {
         holds = q .holds ∙ ap (λ (n : ℕ). part s n (length (getD ps k []))) a;
@@ -89,7 +89,7 @@ voices-laid s (suc k) at l = go (voiceSize s at) refl (ℕ-discrete (voiceSize s
         (laid-later s at size (voice-sized s at size e z) (voicesFrom s (at + 6 + size)) k (further (at + 6 + size) (omega (arith, n))))
 
 -- the blocks before the next one are those before this one, and this one; all of them are at least those
-laid-next : (ps : List (List ℕ)) (k : ℕ) → k < length ps → laid (take (suc k) ps) ≡ laid (take k ps) + 6 + length (getD ps k [])
+laid-next : (ps : List (List ℕ)) (k : ℕ) → k < length ps → blocksLong (take (suc k) ps) ≡ blocksLong (take k ps) + 6 + length (getD ps k [])
 laid-next [] k l = absurd (omega arith)
 laid-next (p ∷ ps) zero l = let a = laid-more p [] in let b = laid-none in omega (arith, a, b)
 laid-next (p ∷ ps) (suc k) l =
@@ -98,7 +98,7 @@ laid-next (p ∷ ps) (suc k) l =
     let b = laid-more p (take k ps) in
     omega (arith, r, a, b)
 
-laid-most : (ps : List (List ℕ)) (k : ℕ) → laid (take k ps) ≤ laid ps
+laid-most : (ps : List (List ℕ)) (k : ℕ) → blocksLong (take k ps) ≤ blocksLong ps
 laid-most ps zero = let a = laid-none in omega (arith, a)
 laid-most [] (suc k) = omega arith
 laid-most (p ∷ ps) (suc k) =
@@ -108,11 +108,11 @@ laid-most (p ∷ ps) (suc k) =
     omega (arith, r, a, b)
 
 record StandsIn (s : List ℕ) (ps : List (List ℕ)) (k : ℕ) : Type 0 where
-  holds : getD ps k [] ≡ part s (placeOf ps k) (length (getD ps k []))
+  holds : getD ps k [] ≡ part s (payloadPlace ps k) (length (getD ps k []))
   positive : 0 < length (getD ps k [])
   whole : length (getD ps k []) % 18 ≡ 0
-  apart : placeOf ps k + length (getD ps k []) + 6 ≡ placeOf ps (suc k)
-  within : placeOf ps k + length (getD ps k []) + 10 ≤ length s
+  apart : payloadPlace ps k + length (getD ps k []) + 6 ≡ payloadPlace ps (suc k)
+  within : payloadPlace ps k + length (getD ps k []) + 10 ≤ length s
 
 stands-in : (s : List ℕ) (k : ℕ) (h : Heading) → walkedOf s ≡ Whole h → k < length (voicesFrom s afterHead) → StandsIn s (voicesFrom s afterHead) k
 stands-in s k h e l =
@@ -184,7 +184,7 @@ frames-are-long s k l =
     ∙ cut-long (length (joined (payloadsOf s)) / 18) (joined (payloadsOf s)) k (omega arith) (omega (arith, n))
 
 -- whole frames take no more bytes than their blocks
-laid-frames : (ps : List (List ℕ)) → 18 * length (framesIn ps) ≤ laid ps
+laid-frames : (ps : List (List ℕ)) → 18 * length (framesIn ps) ≤ blocksLong ps
 laid-frames [] = let a = frames-in-none in omega (arith, a)
 laid-frames (p ∷ ps) =
     let r = laid-frames ps in

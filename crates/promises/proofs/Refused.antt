@@ -13,7 +13,7 @@ use lib.ListN.{length}
 use Rattle.record.specs.Fields.{tooLarge}
 use Rattle.record.specs.declared.Record.{Record}
 use Rattle.record.proofs.Laws.{none-too-large, all-fit-none-too-large, lowest-too-large, too-large-at}
-use Rattle.delays.specs.Table.{twelfthsOf, byteOf, rankWith}
+use Rattle.delays.specs.Table.{twelfthsOf, printedByte, rankWith}
 use Rattle.delays.specs.Codes.{afterOf, codedOf, listed, inWindow, baseOf}
 use Rattle.delays.specs.declared.Coded.{Coded}
 use Rattle.delays.specs.declared.Coded.the-variants.{Codes, NotListed, OutsideWindow}
@@ -232,7 +232,7 @@ module _ (a b c d : ℕ) where
     outside-fourth e f g = rw (one, two, near, e, f, g)
 
     all-sent : listed c ≡ true → listed d ≡ true → inWindow (rankWith c) (rankWith d) ≡ true
-        → codedOf delays-given ≡ Codes (byteOf (rankWith a)) (rankWith b - baseOf (rankWith a)) (byteOf (rankWith c)) (rankWith d - baseOf (rankWith c))
+        → codedOf delays-given ≡ Codes (printedByte (rankWith a)) (rankWith b - baseOf (rankWith a)) (printedByte (rankWith c)) (rankWith d - baseOf (rankWith c))
     unfolding codedOf
     all-sent e f g = rw (one, two, near, e, f, g)
 

@@ -18,7 +18,7 @@ use Rattle.laws.specs.Total.{total, fromBits}
 use Rattle.record.specs.Fields.{widthOf}
 use Rattle.frame.specs.Places.{places, seek, fieldAt, bitIn, bitsIn, placeOf, fieldOf, bitOf}
 use Rattle.frame.specs.Parity.{guardedName, guardedPlace, number, mended}
-use Rattle.frame.specs.Frame.{bitAt, packed, valueOf}
+use Rattle.frame.specs.Frame.{bitAt, packed, indexIn}
 use Rattle.frame.specs.Answers.{readingOf, recordMark}
 use Rattle.frame.proofs.Fields.{place-first, field-of-place, bit-of-place}
 use Rattle.frame.proofs.Gathered.{bitAt-small}
@@ -174,11 +174,11 @@ three : List ℕ
 three = only (21 ∷ 51 ∷ 11 ∷ [])
 
 three-number : readingOf three .number ≡ 0
-unfolding three lowestFrom tabulateFrom total fromBits places seek guardedPlace number mended bitAt packed valueOf readingOf recordMark hzTable hertzOf markOf
+unfolding three lowestFrom tabulateFrom total fromBits places seek guardedPlace number mended bitAt packed indexIn readingOf recordMark hzTable hertzOf markOf
 three-number = refl
 
 three-bit : readBit three 11 5 ≡ 1
-unfolding three lowestFrom tabulateFrom total fromBits places seek guardedPlace number mended bitAt packed valueOf readingOf recordMark hzTable hertzOf markOf
+unfolding three lowestFrom tabulateFrom total fromBits places seek guardedPlace number mended bitAt packed indexIn readingOf recordMark hzTable hertzOf markOf
 three-bit = refl
 
 is-bit : (p : ℕ) (l : List ℕ) → isIn p l < 2

@@ -16,7 +16,7 @@ use Rattle.blocks.specs.Walk.{longest, refuse, pastHead, pastVoice, stepOf, atS
 use Rattle.blocks.specs.Frames.{framesOf}
 use Rattle.recording.specs.Judged.{judgedBy, judgedOf}
 use Rattle.blocks.specs.Refusals.{refusalOf}
-use Rattle.promises.specs.Rule.{rightSize, knownKind, inTurn, Condition, order, LowestFirst, Clean, ClearBefore, Reached, Given, Accepted, RefusedExactly, SoundExactly}
+use Rattle.promises.specs.Rule.{rightSize, knownKind, inTurn, Condition, order, LowestFirst, NoneMet, ClearBefore, Reached, Given, Accepted, RefusedExactly, SoundExactly}
 use Rattle.promises.specs.Rule.Reached.{at-first, past-head, past-voice}
 use Rattle.blocks.specs.declared.Cause.{Cause}
 use Rattle.blocks.specs.declared.Cause.the-variants.{TooLong, HeaderCut, PastEnd, WrongSize, UnknownKind, OutOfTurn, EndMissing, WrongCount, Extra}
@@ -117,7 +117,7 @@ clear-more s w n clear none c l q = go (ℕ-discrete (order c) n)
     go (yes e) = none (subst (Condition s w) (named s w c q ∙ ap (causeBy s w) e) q)
     go (no e) = clear c (omega arith) q
 
-clear-all : (s : List ℕ) (w : Walk) → ClearBefore s w 9 → Clean s w
+clear-all : (s : List ℕ) (w : Walk) → ClearBefore s w 9 → NoneMet s w
 clear-all s w clear c q = clear c (order-small c) q
 
 -- of two that are met and are each the first, there is one
@@ -188,9 +188,9 @@ module _ {kind : ℕ} where
 
 data Seen (s : List ℕ) (w : Walk) : Moved → Type 0 where
   seen-refused : (c : Cause) → Condition s w c → ClearBefore s w (order c) → Seen s w (refuse c)
-  seen-head : Clean s w → kindAt s (w .at) ≡ 1 → Seen s w (On (pastHead w (wordAt s (w .at + 6)) (wordAt s (w .at + 10))))
-  seen-voice : Clean s w → kindAt s (w .at) ≡ 2 → Seen s w (On (pastVoice w (sizeAt s (w .at))))
-  seen-end : (h : Heading) → Clean s w → kindAt s (w .at) ≡ 3 → Seen s w (Done (Whole h))
+  seen-head : NoneMet s w → kindAt s (w .at) ≡ 1 → Seen s w (On (pastHead w (wordAt s (w .at + 6)) (wordAt s (w .at + 10))))
+  seen-voice : NoneMet s w → kindAt s (w .at) ≡ 2 → Seen s w (On (pastVoice w (sizeAt s (w .at))))
+  seen-end : (h : Heading) → NoneMet s w → kindAt s (w .at) ≡ 3 → Seen s w (Done (Whole h))
 
 module _ (s : List ℕ) (w : Walk) (inside : w .at ≤ length s) (short : length s ≤ longest) where
   clear-none : ClearBefore s w 0
@@ -266,7 +266,7 @@ module _ (s : List ℕ) (w : Walk) (inside : w .at ≤ length s) (short : length
                 clear-more s w 6 (clear-more s w 5 clear-kind (λ q. clash (inTurn w (kindAt s (w .at))) turn (q .2)))
                 (λ q. omega (arith, q .1))
 
-            clean-unless-end : (kindAt s (w .at) ≡ 3 → ⊥) → Clean s w
+            clean-unless-end : (kindAt s (w .at) ≡ 3 → ⊥) → NoneMet s w
             unfolding causeBy
             clean-unless-end n = clear-all s w (clear-more s w 8 (clear-more s w 7 clear-turn (λ q. n (q .2))) (λ q. n (q .1)))
 
@@ -281,7 +281,7 @@ module _ (s : List ℕ) (w : Walk) (inside : w .at ≤ length s) (short : length
               see-extra : refuse (Extra (w .at + 10)) ≡ stepOf s w → kindAt s (w .at) ≡ 3 → w .at + 10 < length s → Seen s w (stepOf s w)
               see-extra e k n = subst (Seen s w) e (seen-refused (Extra (w .at + 10)) (refl, k, n) clear-count)
 
-              clean-end : length s ≤ w .at + 10 → Clean s w
+              clean-end : length s ≤ w .at + 10 → NoneMet s w
               unfolding causeBy
               clean-end h = clear-all s w (clear-more s w 8 clear-count (λ q. omega (arith, q .2)))
 

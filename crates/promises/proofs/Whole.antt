@@ -12,7 +12,7 @@ use lib.Seq.{length-take-le}
 use Rattle.blocks.specs.Blocks.{blockAt, part}
 use Rattle.blocks.specs.Walk.{longest, refuse, pastHead, pastVoice, met, stepOf, atStart, walkFrom, walkedOf}
 use Rattle.blocks.specs.Frames.{voicesFrom, cut, eighteens, framesIn}
-use Rattle.promises.specs.Parts.{laid}
+use Rattle.promises.specs.Parts.{blocksLong}
 use Rattle.blocks.specs.declared.Cause.the-variants.{OutOfTurn, WrongCount, Extra}
 use Rattle.blocks.specs.declared.Block.{Block}
 use Rattle.blocks.specs.declared.Block.the-variants.{Head, Voice, End, Broken}
@@ -75,18 +75,18 @@ pub record Rest (s : List ℕ) (w : Walk) (h : Heading) : Type 0 where
   pub stop : ℕ
   pub end : blockAt s stop ≡ End (h .frames)
   pub last : length s ≡ stop + 10
-  pub from : stop ≡ w .at + laid (voicesFrom s (w .at))
+  pub from : stop ≡ w .at + blocksLong (voicesFrom s (w .at))
   pub counted : h .frames ≡ w .frames + length (framesIn (voicesFrom s (w .at)))
   pub some : h .frames ≡ 0 → ⊥
   pub unit : h .unit ≡ w .unit
   pub number : h .number ≡ w .number
 
-pub laid-more : (p : List ℕ) (ps : List (List ℕ)) → laid (p ∷ ps) ≡ 6 + length p + laid ps
-unfolding laid
+pub laid-more : (p : List ℕ) (ps : List (List ℕ)) → blocksLong (p ∷ ps) ≡ 6 + length p + blocksLong ps
+unfolding blocksLong
 laid-more p ps = refl
 
-pub laid-none : laid [] ≡ 0
-unfolding laid
+pub laid-none : blocksLong [] ≡ 0
+unfolding blocksLong
 laid-none = refl
 
 pub length-cut : (n : ℕ) (p : List ℕ) → length (cut n p) ≡ n
@@ -117,7 +117,7 @@ rest s h (suc n) w l t e = go (stepOf s w) refl (λ next m u f. rest s h n next 
         let z : size ≡ 0 → ⊥ = λ y. omega (arith, d .1) in
         let m = voices-more s (w .at) size v z in
         let k : length (part s (w .at + 6) size) ≡ size = length-take-le size (drop (w .at + 6) s) (simp length-drop (omega (arith, d .0 .fits))) in
-        let a = ap laid m ∙ laid-more (part s (w .at + 6) size) (voicesFrom s (w .at + 6 + size)) in
+        let a = ap blocksLong m ∙ laid-more (part s (w .at + 6) size) (voicesFrom s (w .at + 6 + size)) in
         let b′ = ap (λ (x : List (List ℕ)). length (framesIn x)) m ∙ frames-in-more (part s (w .at + 6) size) (voicesFrom s (w .at + 6 + size)) in
         let j : length (part s (w .at + 6) size) / 18 ≡ size / 18 = ap (λ (x : ℕ). x / 18) k in
         record {
@@ -136,7 +136,7 @@ rest s h (suc n) w l t e = go (stepOf s w) refl (λ next m u f. rest s h n next 
         let d = step-ended s w h (o ∙ ap Done i) in
         let v = end-no-voice s (w .at) (w .frames) (d .block) in
         let m = voices-none s (w .at) 0 v refl in
-        let a = ap laid m ∙ laid-none in
+        let a = ap blocksLong m ∙ laid-none in
         let b = ap (λ (x : List (List ℕ)). length (framesIn x)) m ∙ frames-in-none in
         let f : h .frames ≡ w .frames = ap (λ (y : Heading). y .frames) (d .told) in
         record {

@@ -3,11 +3,11 @@
 use Rattle.laws.specs.Lowest.{lowestFrom}
 use Rattle.laws.specs.Tabulate.{tabulateFrom}
 use Rattle.laws.specs.Total.{total, fromBits}
-use Rattle.laws.specs.Place.{placeOf}
+use Rattle.laws.specs.Place.{placeIn}
 use Rattle.gains.specs.Tables.{cgTable, pgTable}
 use Rattle.gains.specs.Nearest.{apart, nearestOf}
-use Rattle.delays.specs.Table.{delays, bytes, twelfthsOf, byteOf, rankOf, rankWith}
-use Rattle.delays.specs.Codes.{heardOf}
+use Rattle.delays.specs.Table.{delays, bytes, twelfthsOf, printedByte, rankOf, rankWith}
+use Rattle.delays.specs.Codes.{meantBy}
 use Rattle.lsp.specs.Average.{averagesOf}
 use Rattle.values.specs.Values.{delaysOf}
 use Rattle.lsp.specs.Table.{hzTable, hertzOf}
@@ -15,10 +15,10 @@ use Rattle.lsp.specs.Order.{markOf}
 use Rattle.codebook.specs.Draw.{freshGenerator, wrapped, drawOf}
 use Rattle.frame.specs.Places.{places, seek}
 use Rattle.frame.specs.Parity.{guardedPlace, number, mended}
-use Rattle.frame.specs.Frame.{bitAt, packed, valueOf}
+use Rattle.frame.specs.Frame.{bitAt, packed, indexIn}
 use Rattle.frame.specs.Answers.{readingOf, recordMark}
 use Rattle.promises.specs.Worked.{workedNumbers, AllTwelve}
 
 pub all-twelve : AllTwelve
-unfolding AllTwelve workedNumbers apart nearestOf twelfthsOf byteOf rankOf rankWith heardOf averagesOf delaysOf lowestFrom tabulateFrom total fromBits placeOf cgTable pgTable delays bytes hzTable hertzOf markOf freshGenerator wrapped drawOf places seek guardedPlace number mended bitAt packed valueOf readingOf recordMark
+unfolding AllTwelve workedNumbers apart nearestOf twelfthsOf printedByte rankOf rankWith meantBy averagesOf delaysOf lowestFrom tabulateFrom total fromBits placeIn cgTable pgTable delays bytes hzTable hertzOf markOf freshGenerator wrapped drawOf places seek guardedPlace number mended bitAt packed indexIn readingOf recordMark
 all-twelve = tt

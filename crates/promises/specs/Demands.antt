@@ -1,6 +1,6 @@
 -- The three demands, in the words of the person this is built for, and under each the statements that meet it. A reviewer starts here:
 -- each name below is a statement of the file beside it, and proofs/Demands.antt holds a proof of every one.
-use Rattle.listing.specs.Promised.{Fits, ListingStands, RefusedListingStays}
+use Rattle.listing.specs.Promised.{ListingFits, ListingStands, RefusedListingStays}
 use Rattle.promises.specs.Frames.{ReadsBack, SameBits, DamageAlone, OneMended, TwoReported, EveryFrameRead, OneFrame, SixteenFrames}
 use Rattle.promises.specs.Functions.{WriteThenRead, ReadThenWrite, RepairByDamage, OneFlip, TwoFlips, NoTwoFrames}
 use Rattle.promises.specs.Refused.{ReaderRefuses, WriterRefuses, RefusedFrameStays, HearingRefuses, RefusedStateStays, DelaysRefuse, CodeRefuses, RefusedCodeStays, RefusedReadStays, RefusedWriteStays}
@@ -103,7 +103,7 @@ pub record DemandTwo : Type 0 where
   pub pass-hears : PassHears
   pub so-far-alone : SoFarAlone
   -- the listing
-  pub listing-fits : Fits
+  pub listing-fits : ListingFits
   pub listing-stands : ListingStands
 
 -- "Take a frame our writer made and flip any set of its bits. The indices then read are the written ones, with exactly those bits

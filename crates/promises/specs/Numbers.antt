@@ -21,16 +21,16 @@ use Rattle.blocks.specs.Walk.{walkedOf}
 use Rattle.blocks.specs.Refusals.{walkedRefusal, walkedTells}
 use Rattle.blocks.specs.declared.Cause.the-variants.{TooLong, HeaderCut, PastEnd, WrongSize, UnknownKind, OutOfTurn, EndMissing, WrongCount, Extra}
 use Rattle.recording.specs.Judged.{judgedOf, judgedRefusal, judgedTells}
-use Rattle.promises.specs.Refused.{Fits, LowestTooLarge, Ordered, LowestFall, FirstNotListed, FirstOutside, Sends}
+use Rattle.promises.specs.Refused.{AllFit, LowestTooLarge, Ordered, LowestFall, FirstNotListed, FirstOutside, Sends}
 use Rattle.promises.specs.Rule.{Given, Accepted}
 
 -- a record to write, into a buffer of n bytes
 pub data WriterTable (r : Record) (n : ℕ) : ℕ → List ℕ → Type 0 where
   write-length : (n ≡ 18 → ⊥) → WriterTable r n 1 []
   write-index : (f : ℕ) → n ≡ 18 → LowestTooLarge r f → WriterTable r n 2 (f ∷ [])
-  write-fall : (m : ℕ) → n ≡ 18 → Fits r → LowestFall r m → WriterTable r n 3 (m ∷ [])
-  write-expansion : n ≡ 18 → Fits r → Ordered r → r .sp ≡ 1 → WriterTable r n 6 []
-  write-frame : n ≡ 18 → Fits r → Ordered r → r .sp ≡ 0 → WriterTable r n 0 []
+  write-fall : (m : ℕ) → n ≡ 18 → AllFit r → LowestFall r m → WriterTable r n 3 (m ∷ [])
+  write-expansion : n ≡ 18 → AllFit r → Ordered r → r .sp ≡ 1 → WriterTable r n 6 []
+  write-frame : n ≡ 18 → AllFit r → Ordered r → r .sp ≡ 0 → WriterTable r n 0 []
 
 unfoldable pub WriterNumbers : Type 0
 WriterNumbers =
@@ -40,8 +40,8 @@ WriterNumbers =
 -- a record to hear
 pub data HearingTable (r : Record) : ℕ → List ℕ → Type 0 where
   hear-index : (f : ℕ) → LowestTooLarge r f → HearingTable r 2 (f ∷ [])
-  hear-expansion : Fits r → r .sp ≡ 1 → HearingTable r 6 []
-  hear-values : Fits r → r .sp ≡ 0 → HearingTable r 0 []
+  hear-expansion : AllFit r → r .sp ≡ 1 → HearingTable r 6 []
+  hear-values : AllFit r → r .sp ≡ 0 → HearingTable r 0 []
 
 unfoldable pub HearingNumbers : Type 0
 HearingNumbers =

@@ -14,22 +14,22 @@ use Rattle.recording.specs.declared.Summary.{Summary}
 use Rattle.recording.specs.declared.Judged.the-variants.{Sound, Refused}
 
 -- how many bytes the blocks of these payloads take: six for each header
-unfoldable pub laid : List (List ℕ) → ℕ
-laid [] = 0
-laid (p ∷ ps) = 6 + length p + laid ps
+unfoldable pub blocksLong : List (List ℕ) → ℕ
+blocksLong [] = 0
+blocksLong (p ∷ ps) = 6 + length p + blocksLong ps
 
 -- where the k-th payload begins: after the head, the voice blocks before it and its own header
-abbrev pub placeOf : List (List ℕ) → ℕ → ℕ
-placeOf ps k = afterHead + laid (take k ps) + 6
+abbrev pub payloadPlace : List (List ℕ) → ℕ → ℕ
+payloadPlace ps k = afterHead + blocksLong (take k ps) + 6
 
 -- the k-th voice block of a recording is a part of its bytes, of whole frames; it ends before the next begins, and ten bytes for the
 -- end block come after it
 pub record Stands (s : List ℕ) (k : ℕ) : Type 0 where
-  pub holds : voiceBlockOf s k ≡ part s (placeOf (payloadsOf s) k) (length (voiceBlockOf s k))
+  pub holds : voiceBlockOf s k ≡ part s (payloadPlace (payloadsOf s) k) (length (voiceBlockOf s k))
   pub positive : 0 < length (voiceBlockOf s k)
   pub whole : length (voiceBlockOf s k) % 18 ≡ 0
-  pub apart : placeOf (payloadsOf s) k + length (voiceBlockOf s k) + 6 ≡ placeOf (payloadsOf s) (suc k)
-  pub within : placeOf (payloadsOf s) k + length (voiceBlockOf s k) + 10 ≤ length s
+  pub apart : payloadPlace (payloadsOf s) k + length (voiceBlockOf s k) + 6 ≡ payloadPlace (payloadsOf s) (suc k)
+  pub within : payloadPlace (payloadsOf s) k + length (voiceBlockOf s k) + 10 ≤ length s
 
 abbrev pub VoiceBlocksStand : Type 0
 VoiceBlocksStand = (s : List ℕ) (k : ℕ) → k < length (payloadsOf s) → Stands s k

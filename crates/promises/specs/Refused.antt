@@ -9,7 +9,7 @@ use lib.ListN.{length}
 use Rattle.record.specs.Fields.{indexOf, widthOf}
 use Rattle.record.specs.declared.Record.{Record}
 use Rattle.delays.specs.Table.{twelfthsOf, rankWith}
-use Rattle.delays.specs.Codes.{afterOf, heardOf, codedOf}
+use Rattle.delays.specs.Codes.{afterOf, meantBy, codedOf}
 use Rattle.delays.specs.declared.Coded.{Coded}
 use Rattle.delays.specs.declared.Coded.the-variants.{Codes, NotListed, OutsideWindow}
 use Rattle.lsp.specs.Table.{lsp, hertzOf}
@@ -32,8 +32,8 @@ unfoldable pub ReaderRefuses : Type 0
 ReaderRefuses = (s : List ℕ) → (readRefusal (readingOf s .verdict) ≡ 1) ↔ (length s ≡ 18 → ⊥)
 
 -- every index fits its field; or f is the lowest field whose index does not
-abbrev pub Fits : Record → Type 0
-Fits r = (f : ℕ) → 1 ≤ f → f ≤ 28 → indexOf r f < 2 ^ widthOf f
+abbrev pub AllFit : Record → Type 0
+AllFit r = (f : ℕ) → 1 ≤ f → f ≤ 28 → indexOf r f < 2 ^ widthOf f
 
 pub record LowestTooLarge (r : Record) (f : ℕ) : Type 0 where
   pub from : 1 ≤ f
@@ -55,9 +55,9 @@ pub record LowestFall (r : Record) (m : ℕ) : Type 0 where
 abbrev pub WriterGives : Record → ℕ → Written → Type 0
 WriterGives r n Written.WrongLength = n ≡ 18 → ⊥
 WriterGives r n (Written.TooLarge f) = (n ≡ 18) × LowestTooLarge r f
-WriterGives r n (Written.Falling m) = (n ≡ 18) × Fits r × LowestFall r m
-WriterGives r n Written.Expansion = (n ≡ 18) × Fits r × Ordered r × (r .sp ≡ 1)
-WriterGives r n Written.Frame = (n ≡ 18) × Fits r × Ordered r × (r .sp ≡ 0)
+WriterGives r n (Written.Falling m) = (n ≡ 18) × AllFit r × LowestFall r m
+WriterGives r n Written.Expansion = (n ≡ 18) × AllFit r × Ordered r × (r .sp ≡ 1)
+WriterGives r n Written.Frame = (n ≡ 18) × AllFit r × Ordered r × (r .sp ≡ 0)
 
 unfoldable pub WriterRefuses : Type 0
 WriterRefuses = (r : Record) (n : ℕ) (a : Written) → (writtenOf r n ≡ a) ↔ WriterGives r n a
@@ -68,8 +68,8 @@ RefusedFrameStays = (r : Record) (s : List ℕ) → (refusalOf (writtenOf r (len
 -- a record to hear, after any state: 2, then 6; a refused record leaves the state as it came
 abbrev pub HearingGives : Record → Outcome → Type 0
 HearingGives r (TooLarge f) = LowestTooLarge r f
-HearingGives r Expansion = Fits r × (r .sp ≡ 1)
-HearingGives r Heard = Fits r × (r .sp ≡ 0)
+HearingGives r Expansion = AllFit r × (r .sp ≡ 1)
+HearingGives r Heard = AllFit r × (r .sp ≡ 0)
 
 unfoldable pub HearingRefuses : Type 0
 HearingRefuses = (r : Record) (before : State) (o : Outcome) → (valuesOf r before .outcome ≡ o) ↔ HearingGives r o
@@ -102,7 +102,7 @@ pub record Sends (a b c d i j k l : ℕ) : Type 0 where
   pub second : j < 64
   pub third : k < 256
   pub fourth : l < 64
-  pub heard : heardOf (i ∷ j ∷ k ∷ l ∷ []) ≡ a ∷ b ∷ c ∷ d ∷ []
+  pub heard : meantBy (i ∷ j ∷ k ∷ l ∷ []) ≡ a ∷ b ∷ c ∷ d ∷ []
 
 abbrev pub CodingGives : ℕ → ℕ → ℕ → ℕ → Coded → Type 0
 CodingGives a b c d (NotListed n) = FirstNotListed a b c d n

@@ -60,8 +60,8 @@ abbrev pub LowestFirst : Type 0
 LowestFirst = (c d : Cause) → order c ≤ order d → refusalOf c ≤ refusalOf d
 
 -- no refusal's condition is met; none is that comes before n
-abbrev pub Clean : List ℕ → Walk → Type 0
-Clean s w = (c : Cause) → Condition s w c → ⊥
+abbrev pub NoneMet : List ℕ → Walk → Type 0
+NoneMet s w = (c : Cause) → Condition s w c → ⊥
 
 abbrev pub ClearBefore : List ℕ → Walk → ℕ → Type 0
 ClearBefore s w n = (c : Cause) → order c < n → Condition s w c → ⊥
@@ -69,9 +69,9 @@ ClearBefore s w n = (c : Cause) → order c < n → Condition s w c → ⊥
 -- block by block: where a walk comes that passes blocks at which no refusal's condition is met
 pub data Reached (s : List ℕ) : Walk → Type 0 where
   at-first : Reached s atStart
-  past-head : (w : Walk) → Reached s w → Clean s w → kindAt s (w .at) ≡ 1
+  past-head : (w : Walk) → Reached s w → NoneMet s w → kindAt s (w .at) ≡ 1
       → Reached s (pastHead w (wordAt s (w .at + 6)) (wordAt s (w .at + 10)))
-  past-voice : (w : Walk) → Reached s w → Clean s w → kindAt s (w .at) ≡ 2 → Reached s (pastVoice w (sizeAt s (w .at)))
+  past-voice : (w : Walk) → Reached s w → NoneMet s w → kindAt s (w .at) ≡ 2 → Reached s (pastVoice w (sizeAt s (w .at)))
 
 -- a refusal's condition is met at a block that is reached, and none earlier is
 pub record Given (s : List ℕ) (c : Cause) : Type 0 where
@@ -84,7 +84,7 @@ pub record Given (s : List ℕ) (c : Cause) : Type 0 where
 pub record Accepted (s : List ℕ) : Type 0 where
   pub walk : Walk
   pub reached : Reached s walk
-  pub clean : Clean s walk
+  pub clean : NoneMet s walk
   pub end : kindAt s (walk .at) ≡ 3
 
 abbrev pub RefusedExactly : Type 0

@@ -12,8 +12,8 @@ use mir.Val.{SFits}
 use Rattle.record.specs.declared.Record.{Record}
 use Rattle.gains.specs.Tables.{cgTable, pgTable}
 use Rattle.gains.specs.Nearest.{nearestOf, Nearest}
-use Rattle.delays.specs.Table.{twelfthsOf, byteOf, rankOf}
-use Rattle.delays.specs.Codes.{afterOf, heardOf, codedOf}
+use Rattle.delays.specs.Table.{twelfthsOf, printedByte, rankOf}
+use Rattle.delays.specs.Codes.{afterOf, meantBy, codedOf}
 use Rattle.delays.specs.declared.Coded.the-variants.{Codes}
 use Rattle.lsp.specs.Table.{lsp, hertzOf}
 use Rattle.lsp.specs.Order.{markOf, InOrder}
@@ -41,12 +41,12 @@ DelaysRise = (low high : ℕ) → low < high → high < 256 → twelfthsOf low <
 
 unfoldable pub EachByteOnce : Type 0
 EachByteOnce =
-    ((rank : ℕ) → rank < 256 → (byteOf rank < 256) × (rankOf (byteOf rank) ≡ rank))
-    × ((byte : ℕ) → byte < 256 → (rankOf byte < 256) × (byteOf (rankOf byte) ≡ byte))
+    ((rank : ℕ) → rank < 256 → (printedByte rank < 256) × (rankOf (printedByte rank) ≡ rank))
+    × ((byte : ℕ) → byte < 256 → (rankOf byte < 256) × (printedByte (rankOf byte) ≡ byte))
 
 unfoldable pub DelaysComeBack : Type 0
 DelaysComeBack =
-    (i j k l : ℕ) → i < 256 → j < 64 → k < 256 → l < 64 → codedOf (heardOf (i ∷ j ∷ k ∷ l ∷ [])) ≡ Codes i j k l
+    (i j k l : ℕ) → i < 256 → j < 64 → k < 256 → l < 64 → codedOf (meantBy (i ∷ j ∷ k ∷ l ∷ [])) ≡ Codes i j k l
 
 -- "Both ends of the list have fixed windows" (3.5.5): after delays up to 29.25 samples the 64 codes mean 20 to 38.33, after delays from
 -- 115 on 84 to 147.
@@ -67,7 +67,7 @@ GainsHeard = (r : Record) (before : State) → valuesOf r before .outcome ≡ He
 unfoldable pub DelaysHeard : Type 0
 DelaysHeard =
     (r : Record) (before : State) → valuesOf r before .outcome ≡ Heard
-    → valuesOf r before .delays ≡ heardOf (pdIndex r 1 ∷ pdIndex r 2 ∷ pdIndex r 3 ∷ pdIndex r 4 ∷ [])
+    → valuesOf r before .delays ≡ meantBy (pdIndex r 1 ∷ pdIndex r 2 ∷ pdIndex r 3 ∷ pdIndex r 4 ∷ [])
 
 -- "in subframe n, (9-2n) times the previous frame's value plus (2n-1) times the present one's"; "a fresh state takes the first frame's
 -- own values", and then each average is eight times the value.

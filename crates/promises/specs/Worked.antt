@@ -11,8 +11,8 @@ use Rattle.laws.proofs.Signed.{same}
 use Rattle.record.specs.Fields.{indexOf}
 use Rattle.gains.specs.Tables.{minus, cgTable, pgTable}
 use Rattle.gains.specs.Nearest.{nearestOf}
-use Rattle.delays.specs.Table.{byteOf, rankWith}
-use Rattle.delays.specs.Codes.{heardOf}
+use Rattle.delays.specs.Table.{printedByte, rankWith}
+use Rattle.delays.specs.Codes.{meantBy}
 use Rattle.lsp.specs.Table.{hertzOf}
 use Rattle.lsp.specs.Order.{markOf}
 use Rattle.lsp.specs.Average.{averagesOf}
@@ -48,11 +48,11 @@ zeros n = tabulate (λ k. pos 0) n
 
 -- what a six-bit code means after a delay that is sent by its printed byte, both in twelfths
 abbrev pub following : ℕ → ℕ → ℕ
-following delay code = getD (heardOf (byteOf (rankWith delay) ∷ code ∷ 0 ∷ 0 ∷ [])) 1 0
+following delay code = getD (meantBy (printedByte (rankWith delay) ∷ code ∷ 0 ∷ 0 ∷ [])) 1 0
 
 -- what a printed byte means in subframe 1
 abbrev pub firstHeard : ℕ → ℕ
-firstHeard byte = getD (heardOf (byte ∷ 0 ∷ 0 ∷ 0 ∷ [])) 0 0
+firstHeard byte = getD (meantBy (byte ∷ 0 ∷ 0 ∷ 0 ∷ [])) 0 0
 
 -- ten LSPs in Hz with LSP 4 at index 12 and LSP 5 at a given one, no lower pair falling
 abbrev pub fifthAt : ℕ → List ℕ

@@ -9,7 +9,7 @@ ghost use lib.ListN.{length};
 ghost use Rattle.gains.specs.Tables.{cgTable, pgTable};
 ghost use Rattle.gains.specs.Gains.{cgOf, pgOf};
 ghost use Rattle.gains.specs.Nearest.{nearestOf};
-ghost use Rattle.delays.specs.Codes.{heardOf, codedOf};
+ghost use Rattle.delays.specs.Codes.{meantBy, codedOf};
 ghost use Rattle.codebook.specs.Code.{writtenOf, codeLeft, refusalOf};
 ghost use Rattle.timing.specs.Numbers.{gainNumber, packOf, packedOf, codedNumber, four, drawNumber};
 ghost use Rattle.timing.specs.Lists.{markNumber, averagesNumber, averagesLeft};
@@ -49,7 +49,7 @@ pub extern "C" fn timing_nearest_pg(x: i32) -> u16
 // The four delays in twelfths that four indices mean, packed.
 #[no_mangle]
 pub extern "C" fn timing_heard(a: u16, b: u16, c: u16, d: u16) -> u64
-    ensures { λ r. ⌜ r ≡ packedOf (heardOf (four a b c d)) ⌝ }
+    ensures { λ r. ⌜ r ≡ packedOf (meantBy (four a b c d)) ⌝ }
 {
     let twelfths = delays::heard([a, b, c, d]);
     pack(twelfths[0], twelfths[1], twelfths[2], twelfths[3])

@@ -9,7 +9,7 @@ use Rattle.laws.specs.Tabulate.{tabulate}
 use Rattle.record.specs.Fields.{indexOf}
 use Rattle.record.specs.declared.Record.{Record}
 use Rattle.gains.specs.Tables.{cgTable, pgTable}
-use Rattle.delays.specs.Codes.{heardOf}
+use Rattle.delays.specs.Codes.{meantBy}
 use Rattle.lsp.specs.Table.{hertzOf}
 use Rattle.lsp.specs.Order.{markOf}
 use Rattle.lsp.specs.Average.{averagesOf}
@@ -39,7 +39,7 @@ gainsOf table indices = inSubframes (λ n. getD table (getD indices (n - 1) 0) (
 
 -- the four delays in twelfths
 unfoldable pub delaysOf : Record → List ℕ
-delaysOf r = heardOf (inSubframes (pdIndex r))
+delaysOf r = meantBy (inSubframes (pdIndex r))
 
 -- the present frame's ten LSPs in Hz
 abbrev pub presentOf : Record → List ℕ

@@ -1,11 +1,11 @@
--- `delays::heard_pair` meets its contract: the two entries are those of the ranks that the indices mean.
+-- `delays::meant_pair` meets its contract: the two entries are those of the ranks that the indices mean.
 -- Assumes nothing.
 use borrow.Author.Needs.{needs, scaled-fits}
 use mir.Facts.{fits-lt, fits-lit}
 use lib.Dec.{lit<}
 use Rattle.delays.proofs.Pairs.{byte-part, next-below, rank-read-below, pair-heard}
-use Rattle.delays.proofs.heard_pair.Statement.{statement}
-use Rattle.delays.proofs.heard_pair.Tie as tie
+use Rattle.delays.proofs.meant_pair.Statement.{statement}
+use Rattle.delays.proofs.meant_pair.Tie as tie
 
 cast-rank : tie.Need-cast-rank
 cast-rank c = fits-lt (byte-part _) (fits-lit tt)
