@@ -1,0 +1,182 @@
+-- The loops that go through the frames by a pass, and what is said of a whole recording.
+-- Assumes nothing.
+use mathlib.Core.Path.{_≡_, _∙_, sym, refl, ap, subst}
+use mathlib.Core.List.{List}
+use Prim.Native.Nat.{ℕ, zero, suc, _+_, _-_, _<_, _≤_}
+use native.Mathlib.Omega.{arith}
+use native.Mathlib.Decide.{decLt}
+use lib.ListN.{length, take}
+use Rattle.values.specs.declared.State.{State}
+use Rattle.values.specs.declared.Outcome.{Outcome}
+use Rattle.values.specs.declared.Outcome.the-variants.{Nothing}
+use Rattle.blocks.specs.Walk.{walkedOf}
+use Rattle.blocks.specs.Frames.{framesOf}
+use Rattle.blocks.specs.declared.Cause.{Cause}
+use Rattle.blocks.specs.declared.Heading.{Heading}
+use Rattle.blocks.specs.declared.Walked.{Walked}
+use Rattle.blocks.specs.declared.Walked.the-variants as Walked
+use Rattle.recording.specs.Counted.{countsTo, countsOf}
+use Rattle.recording.specs.Judged.{judgedBy, judgedOf}
+use Rattle.recording.specs.Pass.{noHearing, stateThrough, frameHeard, startOf, nextOf, passAt}
+use Rattle.recording.specs.declared.Counts.{Counts}
+use Rattle.recording.specs.declared.Judged.the-variants.{Sound, Refused}
+use Rattle.recording.specs.declared.Hearing.{Hearing}
+use Rattle.recording.specs.declared.Pass.{Pass}
+use Rattle.recording.specs.declared.Step.{Step}
+use Rattle.recording.proofs.Hearings.{nothing-told, something-told, heard-there, heard-beyond, heard-before-first}
+use Rattle.recording.proofs.Passes.{Passing, passing-start, Stepping, past, ended, passing-next}
+
+-- ---- one turn of any loop: a step of a pass, and a test whether there was a frame
+
+-- what is known where there was one: the pass goes on, and has passed one frame more of all
+pub record Further (before : State) (s : List ℕ) (p : Pass) (t : Step) : Type 0 where
+  pub more : p .frames < length (framesOf s)
+  pub passing : Passing before s (t .pass)
+  pub one : t .pass .frames ≡ suc (p .frames)
+
+module _ {before : State} {s : List ℕ} {p : Pass} (q : Passing before s p) {t : Step} (is : t ≡ nextOf s p) where
+  stepping : Stepping before s p t
+  stepping = subst (Stepping before s p) (sym is) (passing-next before s p q)
+
+  -- the frame after those that were passed is heard
+  pub step-hears : t .hearing ≡ frameHeard before (framesOf s) (suc (p .frames))
+  step-hears = go stepping
+    where
+      go : Stepping before s p t → t .hearing ≡ frameHeard before (framesOf s) (suc (p .frames))
+      go (past l h n o) = h ∙ sym (heard-there before (framesOf s) (p .frames) l)
+      go (ended e h n) = h ∙ sym (heard-beyond before (framesOf s) (p .frames) (omega arith))
+
+  -- there was one
+  pub step-further : (t .hearing .values .outcome ≡ Nothing → ⊥) → Further before s p t
+  step-further w = go stepping
+    where
+      go : Stepping before s p t → Further before s p t
+      go (past l h n o) = record { more = l; passing = n; one = o }
+      go (ended e h n) = absurd (w (ap (λ (x : Hearing). x .values .outcome) h ∙ nothing-told _))
+
+  -- there was none: all were passed
+  pub step-ended : t .hearing .values .outcome ≡ Nothing → p .frames ≡ length (framesOf s)
+  step-ended w = go stepping
+    where
+      go : Stepping before s p t → p .frames ≡ length (framesOf s)
+      go (past l h n o) = absurd (something-told _ _ (sym (ap (λ (x : Hearing). x .values .outcome) h) ∙ w))
+      go (ended e h n) = e
+
+  -- and counted
+  pub all-counted : t .hearing .values .outcome ≡ Nothing → p .counts ≡ countsOf (framesOf s)
+  all-counted w = q .counts ∙ ap (countsTo (framesOf s)) (step-ended w)
+
+-- a pass that was started is on its way
+pub on-its-way : (before : State) (s : List ℕ) {p : Pass} → p ≡ startOf before s → Passing before s p
+on-its-way before s is = subst (Passing before s) (sym is) (passing-start before s)
+
+-- ---- the loop of `frame_heard`
+
+-- with `ahead` frames to pass before the one asked for
+pub record Seeking (before : State) (s : List ℕ) (k : ℕ) (p : Pass) (ahead : ℕ) : Type 0 where
+  pub passing : Passing before s p
+  pub sought : k ≡ suc (p .frames + ahead)
+
+none-passed : (before : State) (s : List ℕ) → startOf before s .frames ≡ 0
+unfolding startOf
+none-passed before s = refl
+
+module _ (before : State) (s : List ℕ) where
+  pub seeking-start : (k : ℕ) {state : State} {p : Pass} → (k ≡ 0 → ⊥) → state ≡ before → p ≡ startOf state s
+      → Seeking before s k p (k - 1)
+  seeking-start k z same started =
+      let is = started ∙ ap (λ (x : State). startOf x s) same in
+      let n = ap (λ (x : Pass). x .frames) is ∙ none-passed before s in
+      record { passing = on-its-way before s is; sought = omega arith }
+
+  -- there is no frame 0
+  pub sought-none : (k : ℕ) {state : State} {h : Hearing} → k ≡ 0 → state ≡ before → h ≡ noHearing state
+      → h ≡ frameHeard before (framesOf s) k
+  sought-none k z same e =
+      e ∙ ap noHearing same ∙ sym (heard-before-first before (framesOf s)) ∙ ap (frameHeard before (framesOf s)) (sym z)
+
+module _ {before : State} {s : List ℕ} {k ahead : ℕ} {p : Pass} (q : Seeking before s k p ahead) {t : Step} (is : t ≡ nextOf s p) where
+  -- the one asked for is next
+  pub sought-found : ahead ≡ 0 → t .hearing ≡ frameHeard before (framesOf s) k
+  sought-found z =
+      let n : suc (p .frames) ≡ k = omega (arith, q .sought) in
+      step-hears (q .passing) is ∙ ap (frameHeard before (framesOf s)) n
+
+  -- there are not so many
+  pub sought-beyond : t .hearing .values .outcome ≡ Nothing → t .hearing ≡ frameHeard before (framesOf s) k
+  sought-beyond w =
+      let e = step-ended (q .passing) is w in
+      step-hears (q .passing) is ∙ heard-beyond before (framesOf s) (p .frames) (omega arith)
+      ∙ sym (heard-beyond before (framesOf s) (p .frames + ahead) (omega arith)) ∙ ap (frameHeard before (framesOf s)) (sym (q .sought))
+
+  pub seeking-on : (ahead ≡ 0 → ⊥) → (t .hearing .values .outcome ≡ Nothing → ⊥) → Seeking before s k (t .pass) (ahead - 1)
+  seeking-on z w =
+      let f = step-further (q .passing) is w in
+      record { passing = f .passing; sought = omega (arith, f .one, q .sought) }
+
+-- ---- the returns of `judge`
+
+pub judge-refused : (s : List ℕ) {cause : Cause} → walkedOf s ≡ Walked.Refused cause → Refused cause ≡ judgedOf s
+unfolding judgedOf
+judge-refused s e = sym (ap (λ (w : Walked). judgedBy w (countsOf (framesOf s))) e)
+
+pub judge-sound : (s : List ℕ) (h : Heading) {c : Counts} → walkedOf s ≡ Walked.Whole h → c ≡ countsOf (framesOf s)
+    → Sound (record { heading = h; frames = h .frames; counts = c }) ≡ judgedOf s
+unfolding judgedOf
+judge-sound s h e is =
+    ap (judgedBy (Walked.Whole h)) is ∙ sym (ap (λ (w : Walked). judgedBy w (countsOf (framesOf s))) e)
+
+-- ---- the pass after k steps
+
+-- it has passed k frames, or all where there are not so many
+record After (before : State) (s : List ℕ) (k : ℕ) (p : Pass) : Type 0 where
+  passing : Passing before s p
+  some : k ≤ length (framesOf s) → p .frames ≡ k
+  all : length (framesOf s) ≤ k → p .frames ≡ length (framesOf s)
+
+after-next : (before : State) (s : List ℕ) (k : ℕ) (p : Pass) → After before s k p → After before s (suc k) (nextOf s p .pass)
+after-next before s k p a = go (nextOf s p) (passing-next before s p (a .passing))
+  where
+    within : p .frames < length (framesOf s) → Dec (k < length (framesOf s)) → k < length (framesOf s)
+    within l (yes h) = h
+    within l (no w) = let e = a .all (omega arith) in absurd (omega arith)
+
+    go : (t : Step) → Stepping before s p t → After before s (suc k) (t .pass)
+    go t (past l h n o) =
+        let h = within l (decLt k (length (framesOf s))) in
+        let f = a .some (omega arith) in
+        record { passing = n; some = λ m. omega arith; all = λ m. omega arith }
+    go t (ended e h n) =
+        rw n (record { passing = a .passing; some = λ m. let f = a .some (omega arith) in omega arith; all = λ m. e })
+
+pass-after : (before : State) (s : List ℕ) (k : ℕ) → After before s k (passAt before s k)
+unfolding passAt
+pass-after before s zero =
+    record { passing = passing-start before s; some = λ m. none-passed before s; all = λ m. omega (arith, none-passed before s) }
+pass-after before s (suc k) = after-next before s k (passAt before s k) (pass-after before s k)
+
+module _ (before : State) (s : List ℕ) (k : ℕ) where
+  -- the step after k steps hears frame k + 1
+  pub pass-hears : nextOf s (passAt before s k) .hearing ≡ frameHeard before (framesOf s) (suc k)
+  pass-hears = step-hears (a .passing) refl ∙ go (decLt k (length (framesOf s)))
+    where
+      a : After before s k (passAt before s k)
+      a = pass-after before s k
+
+      go : Dec (k < length (framesOf s))
+          → frameHeard before (framesOf s) (suc (passAt before s k .frames)) ≡ frameHeard before (framesOf s) (suc k)
+      go (yes l) = ap (λ (n : ℕ). frameHeard before (framesOf s) (suc n)) (a .some (omega arith))
+      go (no w) =
+          let e = a .all (omega arith) in
+          heard-beyond before (framesOf s) (passAt before s k .frames) (omega arith)
+          ∙ sym (heard-beyond before (framesOf s) k (omega arith))
+
+  -- after k steps the first k frames are counted, and the state went through them
+  module _ (h : k ≤ length (framesOf s)) where
+    pub pass-counts : passAt before s k .counts ≡ countsTo (framesOf s) k
+    pass-counts = let a = pass-after before s k in a .passing .counts ∙ ap (countsTo (framesOf s)) (a .some h)
+
+    pub pass-state : passAt before s k .state ≡ stateThrough before (take k (framesOf s))
+    pass-state =
+        let a = pass-after before s k in
+        a .passing .state ∙ ap (λ (n : ℕ). stateThrough before (take n (framesOf s))) (a .some h)
