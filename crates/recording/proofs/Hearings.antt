@@ -1,21 +1,16 @@
 -- What is heard of a frame, and of one frame after the other.
 -- Assumes nothing.
-use mathlib.Core.Path.{_≡_, _∙_, sym, refl, ap, subst}
+use mathlib.Core.Path.{_≡_, _∙_, sym, refl, ap}
 use mathlib.Core.List.{List, [], _∷_, _++_}
 use Prim.Native.Nat.{ℕ, suc, _<_, _≤_}
-use denote.Enum.Declared.{tagOf}
-use types.Run.{OneOf, miss}
 use lib.ListN.{length, getD, take, drop, drop-of-length-le}
 use lib.Seq.{drop-cons, take-suc, take-all}
 use Rattle.frame.specs.Answers.{readingOf}
 use Rattle.frame.specs.declared.Reading.{Reading}
 use Rattle.values.specs.Values.{valuesOf, refusedValues}
 use Rattle.values.specs.declared.State.{State}
-use Rattle.values.specs.declared.Outcome.{Outcome}
 use Rattle.values.specs.declared.Outcome.the-variants.{Nothing}
-use Rattle.values.proofs.Outcome as outcome
 use Rattle.values.specs.declared.Values.{Values}
-use Rattle.values.proofs.Laws.{values-something}
 use Rattle.recording.specs.Pass.{hearingOf, noHearing, stateThrough, firstHeard, frameHeard}
 use Rattle.recording.specs.declared.Hearing.{Hearing}
 
@@ -31,21 +26,6 @@ pub heard-nothing : (before : State) {r : Reading} {v : Values} → r ≡ readin
     → record { reading = r; values = v } ≡ noHearing before
 unfolding noHearing
 heard-nothing before read valued = λ i. record { reading = read i; values = valued i }
-
--- where there is no frame the outcome says so, and the state is as it came
-pub nothing-told : (before : State) → noHearing before .values .outcome ≡ Nothing
-unfolding noHearing refusedValues
-nothing-told before = refl
-
--- where there is a frame it says something else
-pub something-told : (before : State) (f : List ℕ) → hearingOf before f .values .outcome ≡ Nothing → ⊥
-unfolding hearingOf
-something-told before f = values-something (readingOf f .indices) before
-
--- a match that leaves out `Nothing` is left with something else
-pub something-else : (o : Outcome) → OneOf (0 ∷ 1 ∷ 2 ∷ []) (tagOf outcome.the-type o) → o ≡ Nothing → ⊥
-something-else o keys e =
-    miss (0 ∷ 1 ∷ 2 ∷ []) 3 tt (subst (λ (x : Outcome). OneOf (0 ∷ 1 ∷ 2 ∷ []) (tagOf outcome.the-type x)) e keys)
 
 -- the state after one frame more
 pub through-more : (before : State) (fs : List (List ℕ)) (f : List ℕ)

@@ -7,8 +7,6 @@ use native.Mathlib.Omega.{arith}
 use native.Mathlib.Decide.{decLt}
 use lib.ListN.{length, take}
 use Rattle.values.specs.declared.State.{State}
-use Rattle.values.specs.declared.Outcome.{Outcome}
-use Rattle.values.specs.declared.Outcome.the-variants.{Nothing}
 use Rattle.blocks.specs.Walk.{walkedOf}
 use Rattle.blocks.specs.Frames.{framesOf}
 use Rattle.blocks.specs.declared.Cause.{Cause}
@@ -23,16 +21,21 @@ use Rattle.recording.specs.declared.Judged.the-variants.{Sound, Refused}
 use Rattle.recording.specs.declared.Hearing.{Hearing}
 use Rattle.recording.specs.declared.Pass.{Pass}
 use Rattle.recording.specs.declared.Step.{Step}
-use Rattle.recording.proofs.Hearings.{nothing-told, something-told, heard-there, heard-beyond, heard-before-first}
+use Rattle.recording.proofs.Hearings.{heard-there, heard-beyond, heard-before-first}
 use Rattle.recording.proofs.Passes.{Passing, passing-start, Stepping, past, ended, passing-next}
 
--- ---- one turn of any loop: a step of a pass, and a test whether there was a frame
+-- ---- one turn of any loop: a step of a pass, and whether it passed a frame
 
--- what is known where there was one: the pass goes on, and has passed one frame more of all
+-- what is known where it did: it goes on, and has passed one more of all
 pub record Further (before : State) (s : List ℕ) (p : Pass) (t : Step) : Type 0 where
   pub more : p .frames < length (framesOf s)
   pub passing : Passing before s (t .pass)
   pub one : t .pass .frames ≡ suc (p .frames)
+
+-- and where it did not: all were passed
+pub record Ended (before : State) (s : List ℕ) (p : Pass) (t : Step) : Type 0 where
+  pub all : p .frames ≡ length (framesOf s)
+  pub same : t .pass ≡ p
 
 module _ {before : State} {s : List ℕ} {p : Pass} (q : Passing before s p) {t : Step} (is : t ≡ nextOf s p) where
   stepping : Stepping before s p t
@@ -46,25 +49,25 @@ module _ {before : State} {s : List ℕ} {p : Pass} (q : Passing before s p) {t 
       go (past l h n o) = h ∙ sym (heard-there before (framesOf s) (p .frames) l)
       go (ended e h n) = h ∙ sym (heard-beyond before (framesOf s) (p .frames) (omega arith))
 
-  -- there was one
-  pub step-further : (t .hearing .values .outcome ≡ Nothing → ⊥) → Further before s p t
+  pub step-further : (t .pass .frames ≡ p .frames → ⊥) → Further before s p t
   step-further w = go stepping
     where
       go : Stepping before s p t → Further before s p t
       go (past l h n o) = record { more = l; passing = n; one = o }
-      go (ended e h n) = absurd (w (ap (λ (x : Hearing). x .values .outcome) h ∙ nothing-told _))
+      go (ended e h n) = absurd (w (ap (λ (x : Pass). x .frames) n))
 
-  -- there was none: all were passed
-  pub step-ended : t .hearing .values .outcome ≡ Nothing → p .frames ≡ length (framesOf s)
+  pub step-ended : t .pass .frames ≡ p .frames → Ended before s p t
   step-ended w = go stepping
     where
-      go : Stepping before s p t → p .frames ≡ length (framesOf s)
-      go (past l h n o) = absurd (something-told _ _ (sym (ap (λ (x : Hearing). x .values .outcome) h) ∙ w))
-      go (ended e h n) = e
+      go : Stepping before s p t → Ended before s p t
+      go (past l h n o) = absurd (omega arith)
+      go (ended e h n) = record { all = e; same = n }
 
-  -- and counted
-  pub all-counted : t .hearing .values .outcome ≡ Nothing → p .counts ≡ countsOf (framesOf s)
-  all-counted w = q .counts ∙ ap (countsTo (framesOf s)) (step-ended w)
+  -- then all are counted
+  pub all-counted : t .pass .frames ≡ p .frames → t .pass .counts ≡ countsOf (framesOf s)
+  all-counted w =
+      let e = step-ended w in
+      ap (λ (x : Pass). x .counts) (e .same) ∙ q .counts ∙ ap (countsTo (framesOf s)) (e .all)
 
 -- a pass that was started is on its way
 pub on-its-way : (before : State) (s : List ℕ) {p : Pass} → p ≡ startOf before s → Passing before s p
@@ -72,47 +75,48 @@ on-its-way before s is = subst (Passing before s) (sym is) (passing-start before
 
 -- ---- the loop of `frame_heard`
 
--- with `ahead` frames to pass before the one asked for
-pub record Seeking (before : State) (s : List ℕ) (k : ℕ) (p : Pass) (ahead : ℕ) : Type 0 where
+-- the frame asked for is still to come
+pub record Seeking (before : State) (s : List ℕ) (k : ℕ) (p : Pass) : Type 0 where
   pub passing : Passing before s p
-  pub sought : k ≡ suc (p .frames + ahead)
+  pub ahead : p .frames < k
 
 none-passed : (before : State) (s : List ℕ) → startOf before s .frames ≡ 0
 unfolding startOf
 none-passed before s = refl
 
-module _ (before : State) (s : List ℕ) where
-  pub seeking-start : (k : ℕ) {state : State} {p : Pass} → (k ≡ 0 → ⊥) → state ≡ before → p ≡ startOf state s
-      → Seeking before s k p (k - 1)
-  seeking-start k z same started =
+module _ (before : State) (s : List ℕ) (k : ℕ) {state : State} (same : state ≡ before) where
+  pub seeking-start : {p : Pass} → (k ≡ 0 → ⊥) → p ≡ startOf state s → Seeking before s k p
+  seeking-start z started =
       let is = started ∙ ap (λ (x : State). startOf x s) same in
       let n = ap (λ (x : Pass). x .frames) is ∙ none-passed before s in
-      record { passing = on-its-way before s is; sought = omega arith }
+      record { passing = on-its-way before s is; ahead = omega arith }
 
   -- there is no frame 0
-  pub sought-none : (k : ℕ) {state : State} {h : Hearing} → k ≡ 0 → state ≡ before → h ≡ noHearing state
-      → h ≡ frameHeard before (framesOf s) k
-  sought-none k z same e =
+  pub sought-none : {h : Hearing} → k ≡ 0 → h ≡ noHearing state → h ≡ frameHeard before (framesOf s) k
+  sought-none z e =
       e ∙ ap noHearing same ∙ sym (heard-before-first before (framesOf s)) ∙ ap (frameHeard before (framesOf s)) (sym z)
 
-module _ {before : State} {s : List ℕ} {k ahead : ℕ} {p : Pass} (q : Seeking before s k p ahead) {t : Step} (is : t ≡ nextOf s p) where
-  -- the one asked for is next
-  pub sought-found : ahead ≡ 0 → t .hearing ≡ frameHeard before (framesOf s) k
-  sought-found z =
-      let n : suc (p .frames) ≡ k = omega (arith, q .sought) in
+module _ {before : State} {s : List ℕ} {k : ℕ} {p : Pass} (q : Seeking before s k p) {t : Step} (is : t ≡ nextOf s p) where
+  -- it was just passed
+  pub sought-found : t .pass .frames ≡ k → t .hearing ≡ frameHeard before (framesOf s) k
+  sought-found e =
+      let f = step-further (q .passing) is (λ w. omega (arith, q .ahead)) in
+      let n : suc (p .frames) ≡ k = omega (arith, f .one) in
       step-hears (q .passing) is ∙ ap (frameHeard before (framesOf s)) n
 
   -- there are not so many
-  pub sought-beyond : t .hearing .values .outcome ≡ Nothing → t .hearing ≡ frameHeard before (framesOf s) k
+  pub sought-beyond : t .pass .frames ≡ p .frames → t .hearing ≡ frameHeard before (framesOf s) k
   sought-beyond w =
-      let e = step-ended (q .passing) is w in
+      let e = step-ended (q .passing) is w .all in
+      let n : suc (k - 1) ≡ k = omega (arith, q .ahead) in
       step-hears (q .passing) is ∙ heard-beyond before (framesOf s) (p .frames) (omega arith)
-      ∙ sym (heard-beyond before (framesOf s) (p .frames + ahead) (omega arith)) ∙ ap (frameHeard before (framesOf s)) (sym (q .sought))
+      ∙ sym (heard-beyond before (framesOf s) (k - 1) (omega (arith, q .ahead))) ∙ ap (frameHeard before (framesOf s)) n
 
-  pub seeking-on : (ahead ≡ 0 → ⊥) → (t .hearing .values .outcome ≡ Nothing → ⊥) → Seeking before s k (t .pass) (ahead - 1)
+  -- or it is still to come
+  pub seeking-on : (t .pass .frames ≡ k → ⊥) → (t .pass .frames ≡ p .frames → ⊥) → Seeking before s k (t .pass)
   seeking-on z w =
       let f = step-further (q .passing) is w in
-      record { passing = f .passing; sought = omega (arith, f .one, q .sought) }
+      record { passing = f .passing; ahead = omega (arith, f .one, q .ahead) }
 
 -- ---- the returns of `judge`
 

@@ -5,7 +5,6 @@ use blocks::Found;
 use blocks::Heading;
 use blocks::Walked;
 use frame::Reading;
-use values::Outcome;
 use values::State;
 use values::Values;
 ghost use mathlib.Core.Path.{_≡_};
@@ -83,13 +82,11 @@ fn count_frames(s: &[u8], start: Pass) -> Counts
     let mut pass = start;
     loop {
         let step = next(s, pass);
-        let hearing = step.hearing;
-        let values = hearing.values;
-        let outcome = values.outcome;
-        if let Outcome::Nothing = outcome {
-            return pass.counts;
+        let after = step.pass;
+        if after.frames == pass.frames {
+            return after.counts;
         }
-        pass = step.pass;
+        pass = after;
     }
 }
 
@@ -134,20 +131,17 @@ pub fn frame_heard(s: &[u8], k: usize) -> Hearing
         return Hearing::nothing(s, fresh);
     }
     let mut pass = start(s, fresh);
-    let mut ahead = k - 1;
     loop {
         let step = next(s, pass);
-        let hearing = step.hearing;
-        if ahead == 0 {
-            return hearing;
+        let after = step.pass;
+        let passed = after.frames as usize;
+        if passed == k {
+            return step.hearing;
         }
-        let values = hearing.values;
-        let outcome = values.outcome;
-        if let Outcome::Nothing = outcome {
-            return hearing;
+        if after.frames == pass.frames {
+            return step.hearing;
         }
-        pass = step.pass;
-        ahead -= 1;
+        pass = after;
     }
 }
 
