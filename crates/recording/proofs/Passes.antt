@@ -18,18 +18,18 @@ use Rattle.frame.specs.declared.Reading.{Reading}
 use Rattle.values.specs.declared.State.{State}
 use Rattle.blocks.specs.Blocks.{part}
 use Rattle.blocks.specs.Walk.{longest, walkedOf}
-use Rattle.blocks.specs.Frames.{afterHead, ifWhole, framesOf, foundAt, framesFrom}
+use Rattle.blocks.specs.Frames.{ifSound, framesOf, foundAt, framesFrom}
 use Rattle.blocks.specs.declared.Cause.{Cause}
 use Rattle.blocks.specs.declared.Cause.the-variants.{EndMissing}
-use Rattle.blocks.specs.declared.Heading.{Heading}
+use Rattle.blocks.specs.declared.Ending.{Ending}
+use Rattle.blocks.specs.declared.Ending.the-variants as Ending
 use Rattle.blocks.specs.declared.Walked.{Walked}
-use Rattle.blocks.specs.declared.Walked.the-variants as Walked
 use Rattle.blocks.specs.declared.Found.{Found}
 use Rattle.blocks.specs.declared.Found.the-variants.{At, Nothing}
 use Rattle.blocks.proofs.Blocks.{nothing-left}
 use Rattle.blocks.proofs.Voices.{broken-no-voice}
-use Rattle.blocks.proofs.Walks.{whole-short}
-use Rattle.blocks.proofs.Frames.{no-voice, Within, found-within, frames-none, frames-more, frames-refused, frames-whole}
+use Rattle.blocks.proofs.Walks.{sound-short}
+use Rattle.blocks.proofs.Frames.{no-voice, Within, found-within, frames-none, frames-more, frames-refused, frames-sound}
 use Rattle.recording.specs.Counted.{counting, frameAt, countsTo}
 use Rattle.recording.specs.Pass.{hearingOf, noHearing, stateThrough, frameHeard, begunAt, startOf, begunHere, aheadOf, pastFrame, stepBy, nextOf, passAt}
 use Rattle.recording.specs.declared.Counts.{Counts}
@@ -41,21 +41,23 @@ use Rattle.recording.proofs.Hearings.{through-none, through-next, heard
 
 -- ---- the returns
 
--- of `start`: after the head of a whole recording, at the end of one that is refused
-module _ (s : List ℕ) (before : State) {p : Pass} where
-  started : (w : Walked) → walkedOf s ≡ w → p ≡ begunAt (ifWhole w afterHead (length s)) before → p ≡ startOf before s
+-- of `start`: before the first voice block of a sound recording, at the end of one that is refused
+module _ (s : List ℕ) (before : State) {w : Walked} (is : w ≡ walkedOf s) {p : Pass} where
+  started : (e : Ending) → w .ending ≡ e → p ≡ begunAt (ifSound e (w .walk .voices) (length s)) before → p ≡ startOf before s
   unfolding startOf
-  started w e is = is ∙ ap (λ (x : Walked). begunAt (ifWhole x afterHead (length s)) before) (sym e)
+  started e ends begun =
+      begun ∙ ap (λ (x : Ending). begunAt (ifSound x (w .walk .voices) (length s)) before) (sym ends)
+      ∙ ap (λ (x : Walked). begunAt (ifSound (x .ending) (x .walk .voices) (length s)) before) is
 
-  pub start-whole : {h : Heading} → walkedOf s ≡ Walked.Whole h → p ≡ begunAt afterHead before → p ≡ startOf before s
-  start-whole {h} e is = started (Walked.Whole h) e is
+  pub start-sound : w .ending ≡ Ending.Sound → p ≡ begunAt (w .walk .voices) before → p ≡ startOf before s
+  start-sound = started Ending.Sound
 
-  pub start-refused : {cause : Cause} → walkedOf s ≡ Walked.Refused cause → p ≡ begunAt (length s) before → p ≡ startOf before s
-  start-refused {cause} e is = started (Walked.Refused cause) e is
+  pub start-refused : {cause : Cause} → w .ending ≡ Ending.Refused cause → p ≡ begunAt (length s) before → p ≡ startOf before s
+  start-refused {cause} = started (Ending.Refused cause)
 
-  -- so it started after its own state
-  pub start-own : {h : Heading} → walkedOf s ≡ Walked.Whole h → p ≡ begunAt afterHead before → p ≡ startOf (p .state) s
-  start-own e is = start-whole e is ∙ ap (λ (x : State). startOf x s) (sym (ap (λ (x : Pass). x .state) is))
+  -- and so after its own state
+  pub start-own : w .ending ≡ Ending.Sound → p ≡ begunAt (w .walk .voices) before → p ≡ startOf (p .state) s
+  start-own ends begun = start-sound ends begun ∙ ap (λ (x : State). startOf x s) (sym (ap (λ (x : Pass). x .state) begun))
 
 -- of `Pass::ahead`: nothing for a pass that was not begun here
 module _ (s : List ℕ) (p : Pass) where
@@ -148,14 +150,14 @@ frames-few s (suc n) at left h = go (foundAt s at left) refl (frames-few s n)
 
 -- so a recording has at most 3,640
 pub frames-most : (s : List ℕ) → length (framesOf s) ≤ 3640
-frames-most s = go (walkedOf s) refl
+frames-most s = go (walkedOf s .ending) refl
   where
-    go : (w : Walked) → walkedOf s ≡ w → length (framesOf s) ≤ 3640
-    go (Walked.Whole h) e =
-        let short = whole-short s h e in
-        let few = frames-few s (suc (length s)) afterHead 0 (omega arith) in
-        rw (frames-whole s h e) (omega arith)
-    go (Walked.Refused cause) e = rw (frames-refused s cause e) (omega arith)
+    go : (e : Ending) → walkedOf s .ending ≡ e → length (framesOf s) ≤ 3640
+    go Ending.Sound e =
+        let short = sound-short s e in
+        let few = frames-few s (suc (length s)) (walkedOf s .walk .voices) 0 (omega arith) in
+        rw (frames-sound s e) (omega arith)
+    go (Ending.Refused cause) e = rw (frames-refused s cause e) (omega arith)
 
 -- ---- the law
 
@@ -194,15 +196,16 @@ pub record Passing (before : State) (s : List ℕ) (p : Pass) : Type 0 where
 -- a pass that is just started
 pub passing-start : (before : State) (s : List ℕ) → Passing before s (startOf before s)
 unfolding startOf
-passing-start before s = go (walkedOf s) refl
+passing-start before s = go (walkedOf s .ending) refl
   where
     begun : (at : ℕ) → framesFrom s at 0 ≡ framesOf s → Passing before s (begunAt at before)
     begun at e =
         record { rest = e; most = omega arith; counts = counts-none (framesOf s); state = through-none before (framesOf s) }
 
-    go : (w : Walked) → walkedOf s ≡ w → Passing before s (begunAt (ifWhole w afterHead (length s)) before)
-    go (Walked.Whole h) e = begun afterHead (sym (frames-whole s h e))
-    go (Walked.Refused cause) e =
+    go : (e : Ending) → walkedOf s .ending ≡ e
+        → Passing before s (begunAt (ifSound e (walkedOf s .walk .voices) (length s)) before)
+    go Ending.Sound e = begun (walkedOf s .walk .voices) (sym (frames-sound s e))
+    go (Ending.Refused cause) e =
         let z = broken-no-voice s (length s) (EndMissing (length s)) (sym (nothing-left s (length s) (omega arith))) in
         begun (length s) (frames-none s (length s) 0 (sym (no-voice s (length s) 0 0 refl z refl)) ∙ sym (frames-refused s cause e))
 

@@ -10,11 +10,11 @@ use Rattle.values.specs.declared.State.{State}
 use Rattle.blocks.specs.Walk.{walkedOf}
 use Rattle.blocks.specs.Frames.{framesOf}
 use Rattle.blocks.specs.declared.Cause.{Cause}
-use Rattle.blocks.specs.declared.Heading.{Heading}
+use Rattle.blocks.specs.declared.Ending.{Ending}
+use Rattle.blocks.specs.declared.Ending.the-variants as Ending
 use Rattle.blocks.specs.declared.Walked.{Walked}
-use Rattle.blocks.specs.declared.Walked.the-variants as Walked
 use Rattle.recording.specs.Counted.{countsTo, countsOf}
-use Rattle.recording.specs.Judged.{judgedBy, judgedOf}
+use Rattle.recording.specs.Judged.{summaryOf, judgedBy, judgedOf}
 use Rattle.recording.specs.Pass.{noHearing, stateThrough, frameHeard, startOf, nextOf, passAt}
 use Rattle.recording.specs.declared.Counts.{Counts}
 use Rattle.recording.specs.declared.Judged.the-variants.{Sound, Refused}
@@ -120,15 +120,20 @@ module _ {before : State} {s : List ℕ} {k : ℕ} {p : Pass} (q : Seeking befor
 
 -- ---- the returns of `judge`
 
-pub judge-refused : (s : List ℕ) {cause : Cause} → walkedOf s ≡ Walked.Refused cause → Refused cause ≡ judgedOf s
-unfolding judgedOf
-judge-refused s e = sym (ap (λ (w : Walked). judgedBy w (countsOf (framesOf s))) e)
+module _ (s : List ℕ) {w : Walked} (is : w ≡ walkedOf s) where
+  judged : (e : Ending) → w .ending ≡ e → {c : Counts} → c ≡ countsOf (framesOf s) → judgedBy e (summaryOf (w .walk) c) ≡ judgedOf s
+  unfolding judgedOf
+  judged e ends {c} counted =
+      ap (λ (x : Ending). judgedBy x (summaryOf (w .walk) c)) (sym ends)
+      ∙ ap (λ (x : Counts). judgedBy (w .ending) (summaryOf (w .walk) x)) counted
+      ∙ ap (λ (x : Walked). judgedBy (x .ending) (summaryOf (x .walk) (countsOf (framesOf s)))) is
 
-pub judge-sound : (s : List ℕ) (h : Heading) {c : Counts} → walkedOf s ≡ Walked.Whole h → c ≡ countsOf (framesOf s)
-    → Sound (record { heading = h; frames = h .frames; counts = c }) ≡ judgedOf s
-unfolding judgedOf
-judge-sound s h e is =
-    ap (judgedBy (Walked.Whole h)) is ∙ sym (ap (λ (w : Walked). judgedBy w (countsOf (framesOf s))) e)
+  pub judge-refused : {cause : Cause} → w .ending ≡ Ending.Refused cause → Refused cause ≡ judgedOf s
+  judge-refused {cause} ends = judged (Ending.Refused cause) ends refl
+
+  pub judge-sound : w .ending ≡ Ending.Sound → {c : Counts} → c ≡ countsOf (framesOf s)
+      → Sound (summaryOf (w .walk) c) ≡ judgedOf s
+  judge-sound ends counted = judged Ending.Sound ends counted
 
 -- ---- the pass after k steps
 

@@ -4,19 +4,25 @@ use Prim.Native.Nat.{ℕ}
 use Rattle.blocks.specs.Refusals.{refusalOf, tellsOf}
 use Rattle.blocks.specs.Walk.{walkedOf}
 use Rattle.blocks.specs.Frames.{framesOf}
-use Rattle.blocks.specs.declared.Walked.{Walked}
-use Rattle.blocks.specs.declared.Walked.the-variants as Walked
+use Rattle.blocks.specs.declared.Ending.{Ending}
+use Rattle.blocks.specs.declared.Ending.the-variants as Ending
+use Rattle.blocks.specs.declared.Walk.{Walk}
 use Rattle.recording.specs.Counted.{countsOf}
 use Rattle.recording.specs.declared.Counts.{Counts}
+use Rattle.recording.specs.declared.Summary.{Summary}
 use Rattle.recording.specs.declared.Judged.{Judged}
 use Rattle.recording.specs.declared.Judged.the-variants.{Sound, Refused}
 
-abbrev pub judgedBy : Walked → Counts → Judged
-judgedBy (Walked.Whole h) counts = Sound (record { heading = h; frames = h .frames; counts = counts })
-judgedBy (Walked.Refused cause) counts = Refused cause
+-- what the blocks tell, and the counts
+abbrev pub summaryOf : Walk → Counts → Summary
+summaryOf walk counts = record { heading = walk .heading; frames = walk .frames; counts = counts }
+
+abbrev pub judgedBy : Ending → Summary → Judged
+judgedBy Ending.Sound summary = Sound summary
+judgedBy (Ending.Refused cause) summary = Refused cause
 
 unfoldable pub judgedOf : List ℕ → Judged
-judgedOf s = judgedBy (walkedOf s) (countsOf (framesOf s))
+judgedOf s = judgedBy (walkedOf s .ending) (summaryOf (walkedOf s .walk) (countsOf (framesOf s)))
 
 -- the refusal of an answer and what it tells; 0 is no refusal
 abbrev pub judgedRefusal : Judged → ℕ

@@ -12,7 +12,7 @@ use Rattle.values.specs.declared.State.{State}
 use Rattle.values.specs.declared.Outcome.the-variants as Outcome
 use Rattle.blocks.specs.Blocks.{part}
 use Rattle.blocks.specs.Walk.{longest, walkedOf}
-use Rattle.blocks.specs.Frames.{afterHead, ifWhole, foundAt}
+use Rattle.blocks.specs.Frames.{ifSound, foundAt}
 use Rattle.blocks.specs.declared.Found.{Found}
 use Rattle.blocks.specs.declared.Found.the-variants.{At, Nothing}
 use Rattle.recording.specs.Counted.{counting}
@@ -53,7 +53,7 @@ begunAt at before = record { at = at; left = 0; frames = 0; counts = record { re
 
 -- before the first frame of a recording; at the end of one that is refused
 unfoldable pub startOf : State → List ℕ → Pass
-startOf before s = begunAt (ifWhole (walkedOf s) afterHead (length s)) before
+startOf before s = begunAt (ifSound (walkedOf s .ending) (walkedOf s .walk .voices) (length s)) before
 
 -- a pass that was begun so has passed no more frames than a recording has bytes, and counted none of them twice
 abbrev pub begunHere : Pass → Bool

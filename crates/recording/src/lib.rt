@@ -1,9 +1,10 @@
 // The frames of a recording in order: each one heard with the running state, and how many are repaired or break the sync.
 // A pass stands before a frame and keeps the counts and the state of those that it has passed; one step takes it past the next.
 use blocks::Cause;
+use blocks::Ending;
 use blocks::Found;
 use blocks::Heading;
-use blocks::Walked;
+use blocks::Walk;
 use frame::Reading;
 use values::State;
 use values::Values;
@@ -60,11 +61,15 @@ pub struct Step {
 pub fn judge(s: &[u8]) -> Judged
     ensures { λ r. ⌜ r ≡ judgedOf (now (s .entry)) ⌝ }
 {
-    match blocks::walk_through(s) {
-        Walked::Refused(cause) => Judged::Refused(cause),
-        Walked::Whole(heading) => {
-            let counts = count_frames(s, Pass::begun(14, State::fresh()));
-            let frames = heading.frames;
+    let walked = blocks::walk_through(s);
+    let walk = walked.walk;
+    let ending = walked.ending;
+    match ending {
+        Ending::Refused(cause) => Judged::Refused(cause),
+        Ending::Sound => {
+            let counts = count_frames(s, begin(walk, State::fresh()));
+            let heading = walk.heading;
+            let frames = walk.frames;
             Judged::Sound(Summary {
                 heading,
                 frames,
@@ -94,10 +99,20 @@ fn count_frames(s: &[u8], start: Pass) -> Counts
 pub fn start(s: &[u8], state: State) -> Pass
     ensures { λ r. ⌜ r ≡ startOf state (now (s .entry)) ⌝ }
 {
-    match blocks::walk_through(s) {
-        Walked::Whole(_) => Pass::begun(14, state),
-        Walked::Refused(_) => Pass::begun(s.len(), state),
+    let walked = blocks::walk_through(s);
+    let walk = walked.walk;
+    let ending = walked.ending;
+    match ending {
+        Ending::Sound => begin(walk, state),
+        Ending::Refused(_) => Pass::begun(s.len(), state),
     }
+}
+
+// A pass before the first frame of a recording whose blocks were walked, after a state.
+pub fn begin(walk: Walk, state: State) -> Pass
+    ensures { λ r. ⌜ r ≡ begunAt (walk .voices) state ⌝ }
+{
+    Pass::begun(walk.voices, state)
 }
 
 // The next frame of any pass through any bytes.
