@@ -9,7 +9,7 @@ ghost use Rattle.laws.specs.Tabulate.{tabulate};
 ghost use Rattle.laws.specs.Total.{fromBits};
 ghost use Rattle.frame.specs.Parity.{numberOf};
 ghost use Rattle.frame.specs.Frame.{bitAt, packed, indexIn, sent};
-ghost use Rattle.frame.specs.Answers.{readingOf, writtenOf, frameLeft, recordMark};
+ghost use Rattle.frame.specs.Answers.{readingOf, correctionNumber, writtenOf, frameLeft, recordMark};
 ghost use Rattle.frame.specs.Steps.{entries, guardedEntries, bitOfEntry, mendedFields, recordBy, fieldsOf};
 
 // Whether a frame was read. (Refusal 1: it was not eighteen bytes.)
@@ -24,6 +24,15 @@ pub struct Reading {
     pub indices: Record,
     pub number: usize,
     pub mark: usize,
+}
+
+impl Reading {
+    // The correction number of what was read.
+    pub fn correction_number(self) -> usize
+        ensures { λ n. ⌜ n ≡ correctionNumber self ⌝ }
+    {
+        self.number
+    }
 }
 
 // What a record to write gets: the frame, or the refusal with what it tells.
