@@ -3,12 +3,12 @@
 // number, the four parity bits HP-0 to HP-3 under 0.
 use record::Record;
 ghost use mathlib.Core.Path.{_≡_};
-ghost use Prim.Native.Nat.{_+_, _-_, _*_, _≤_, _<_, _^_};
+ghost use Prim.Native.Nat.{_-_, _<_};
 ghost use lib.ListN.{length, getD};
 ghost use Rattle.laws.specs.Tabulate.{tabulate};
 ghost use Rattle.laws.specs.Total.{fromBits};
 ghost use Rattle.frame.specs.Parity.{numberOf};
-ghost use Rattle.frame.specs.Frame.{bitAt, packed, indexIn, sent};
+ghost use Rattle.frame.specs.Frame.{placeAt, bitAt, packed, indexIn, sent};
 ghost use Rattle.frame.specs.Answers.{readingOf, correctionNumber, writtenOf, frameLeft, recordMark};
 ghost use Rattle.frame.specs.Steps.{entries, guardedEntries, bitOfEntry, mendedFields, recordBy, fieldsOf};
 
@@ -417,13 +417,14 @@ fn to_fields(r: Record) -> [u16; 29]
     ]
 }
 
-// Eight bits sent for the indices, from the place after `from` on, the first of them at the top.
-fn byte_at(fields: &[u16], table: &[u16], from: usize) -> u8
+// Byte k of the frame that the indices are sent in: eight places of the table, the first of them at the top.
+fn byte_at(fields: &[u16], table: &[u16], k: usize) -> u8
     requires { ⌜ length (now fields) ≡ 29 ⌝ }
     requires { ⌜ now table ≡ entries ⌝ }
-    requires { ⌜ from + 8 ≤ 144 ⌝ }
-    ensures { λ r. ⌜ r ≡ fromBits (λ i. sent (λ f. getD (now (fields .entry)) f 0) (from + 8 - i)) 8 ⌝ }
+    requires { ⌜ k < 18 ⌝ }
+    ensures { λ r. ⌜ r ≡ fromBits (λ i. sent (λ f. getD (now (fields .entry)) f 0) (placeAt k i)) 8 ⌝ }
 {
+    let from = 8 * k;
     let mut x: u16 = 0;
     let mut q = 0;
     while q < 8 {
@@ -443,7 +444,7 @@ fn pack(fields: [u16; 29], frame: &mut [u8])
     let table = table();
     let mut k = 0;
     while k < 18 {
-        frame[k] = byte_at(&fields, &table, 8 * k);
+        frame[k] = byte_at(&fields, &table, k);
         k += 1;
     }
 }
