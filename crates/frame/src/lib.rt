@@ -309,27 +309,21 @@ fn gather(frame: &[u8]) -> [u16; 29]
     fields
 }
 
-// The correction number of a list of indices by field.
+// The correction number of a list of indices by field: the exclusive or of the numbers of the guarded bits that are 1.
 fn number_of(fields: [u16; 29]) -> usize
     ensures { λ r. ⌜ r ≡ numberOf (λ n. bitOfEntry fields (getD guardedEntries (n - 1) 0)) ⌝ }
 {
     let guarded = guarded();
-    let mut zero = 0;
-    let mut one = 0;
-    let mut two = 0;
-    let mut three = 0;
+    let mut number = 0;
     let mut n = 0;
     while n < 15 {
         let entry = guarded[n];
         let f = (entry / 16) as usize;
         let x = ((fields[f] >> (entry % 16)) % 2) as usize;
         n += 1;
-        zero += n % 2 * x;
-        one += n / 2 % 2 * x;
-        two += n / 4 % 2 * x;
-        three += n / 8 % 2 * x;
+        number = number ^ (n * x);
     }
-    zero % 2 + one % 2 * 2 + two % 2 * 4 + three % 2 * 8
+    number
 }
 
 // The indices with the bit of a correction number inverted; 0 inverts none.
