@@ -9,18 +9,18 @@ use borrow.Author.Tests.{eq-eqb, ne-eqb}
 use lib.Dec.{eqb}
 use Rattle.laws.proofs.Total.{total-more, total-most}
 use Rattle.laws.specs.Total.{total}
-use Rattle.frame.specs.Answers.{readingOf}
+use Rattle.frame.specs.Answers.{readingOf, correctionNumber}
 use Rattle.frame.specs.declared.Reading.{Reading}
 use Rattle.recording.specs.Counted.{repairBy, syncAt, breakBy, counting, frameAt, countsTo}
 use Rattle.recording.specs.declared.Counts.{Counts}
 
 -- the returns of `repair_by`: 0 where the number is 0, or else 1
 module _ (r : Reading) where
-  pub repair-none : r .number ≡ 0 → 0 ≡ repairBy r
-  repair-none z = rw (eq-eqb (r .number) 0 z)
+  pub repair-none : {n : ℕ} → n ≡ correctionNumber r → n ≡ 0 → 0 ≡ repairBy r
+  repair-none is z = rw (eq-eqb (correctionNumber r) 0 (sym is ∙ z))
 
-  pub repair-one : (r .number ≡ 0 → ⊥) → 1 ≡ repairBy r
-  repair-one z = rw (ne-eqb (r .number) 0 z)
+  pub repair-one : {n : ℕ} → n ≡ correctionNumber r → (n ≡ 0 → ⊥) → 1 ≡ repairBy r
+  repair-one is z = rw (ne-eqb (correctionNumber r) 0 (λ e. z (is ∙ e)))
 
 -- the returns of `break_by`: 0 where SY is 0 at an odd number or 1 at an even one, or else 1
 module _ (n : ℕ) (r : Reading) where
@@ -42,7 +42,7 @@ one-at-most true = omega arith
 one-at-most false = omega arith
 
 pub repair-small : (r : Reading) → repairBy r ≤ 1
-repair-small r = one-at-most (eqb (r .number) 0)
+repair-small r = one-at-most (eqb (correctionNumber r) 0)
 
 pub break-small : (n : ℕ) (r : Reading) → breakBy n r ≤ 1
 break-small n r = one-at-most (eqb (r .indices .sy) (syncAt n))

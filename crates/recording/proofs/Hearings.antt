@@ -7,9 +7,8 @@ use lib.ListN.{length, getD, take, drop, drop-of-length-le}
 use lib.Seq.{drop-cons, take-suc, take-all}
 use Rattle.frame.specs.Answers.{readingOf}
 use Rattle.frame.specs.declared.Reading.{Reading}
-use Rattle.values.specs.Values.{valuesOf, refusedValues}
+use Rattle.values.specs.Values.{nothingHeard, valuesOf}
 use Rattle.values.specs.declared.State.{State}
-use Rattle.values.specs.declared.Outcome.the-variants.{Nothing}
 use Rattle.values.specs.declared.Values.{Values}
 use Rattle.recording.specs.Pass.{hearingOf, noHearing, stateThrough, firstHeard, frameHeard}
 use Rattle.recording.specs.declared.Hearing.{Hearing}
@@ -22,7 +21,7 @@ heard-frame before f read valued =
     λ i. record { reading = read i; values = (valued ∙ ap (λ (x : Reading). valuesOf (x .indices) before) read) i }
 
 -- the return of `Hearing::nothing`
-pub heard-nothing : (before : State) {r : Reading} {v : Values} → r ≡ readingOf [] → v ≡ refusedValues Nothing before
+pub heard-nothing : (before : State) {r : Reading} {v : Values} → r ≡ readingOf [] → v ≡ nothingHeard before
     → record { reading = r; values = v } ≡ noHearing before
 unfolding noHearing
 heard-nothing before read valued = λ i. record { reading = read i; values = valued i }

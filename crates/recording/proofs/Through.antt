@@ -80,7 +80,7 @@ pub record Seeking (before : State) (s : List ℕ) (k : ℕ) (p : Pass) : Type 0
   pub passing : Passing before s p
   pub ahead : p .frames < k
 
-none-passed : (before : State) (s : List ℕ) → startOf before s .frames ≡ 0
+pub none-passed : (before : State) (s : List ℕ) → startOf before s .frames ≡ 0
 unfolding startOf
 none-passed before s = refl
 

@@ -5,13 +5,13 @@ use Prim.Native.Nat.{ℕ, _+_, _-_, _%_}
 use lib.Dec.{eqb}
 use lib.ListN.{length, getD}
 use Rattle.laws.specs.Total.{total}
-use Rattle.frame.specs.Answers.{readingOf}
+use Rattle.frame.specs.Answers.{readingOf, correctionNumber}
 use Rattle.frame.specs.declared.Reading.{Reading}
 use Rattle.recording.specs.declared.Counts.{Counts}
 
 -- a repaired frame is one whose correction number isn't 0
 abbrev pub repairBy : Reading → ℕ
-repairBy r = cond (eqb (r .number) 0) 0 1
+repairBy r = cond (eqb (correctionNumber r) 0) 0 1
 
 -- a sync break is a frame whose SY is not 0 at an odd frame number or not 1 at an even one, counting from 1
 abbrev pub syncAt : ℕ → ℕ

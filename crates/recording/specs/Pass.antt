@@ -7,9 +7,8 @@ use lib.Dec.{leb}
 use lib.ListN.{length, take, drop}
 use Rattle.laws.specs.Table.{both}
 use Rattle.frame.specs.Answers.{readingOf}
-use Rattle.values.specs.Values.{valuesOf, refusedValues}
+use Rattle.values.specs.Values.{nothingHeard, valuesOf}
 use Rattle.values.specs.declared.State.{State}
-use Rattle.values.specs.declared.Outcome.the-variants as Outcome
 use Rattle.blocks.specs.Blocks.{part}
 use Rattle.blocks.specs.Walk.{longest, walkedOf}
 use Rattle.blocks.specs.Frames.{ifSound, foundAt}
@@ -28,7 +27,7 @@ hearingOf before f = record { reading = readingOf f; values = valuesOf (readingO
 
 -- where there is no frame: nothing is read, there are no values, and the state is as it came
 unfoldable pub noHearing : State → Hearing
-noHearing before = record { reading = readingOf []; values = refusedValues Outcome.Nothing before }
+noHearing before = record { reading = readingOf []; values = nothingHeard before }
 
 -- LSP averaging runs on across voice blocks: the state after frames, one after the other
 unfoldable pub stateThrough : State → List (List ℕ) → State

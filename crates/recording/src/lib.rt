@@ -251,7 +251,8 @@ impl Counts {
 fn repair_by(reading: Reading) -> u32
     ensures { λ r. ⌜ r ≡ repairBy reading ⌝ }
 {
-    if reading.number == 0 {
+    let number = reading.correction_number();
+    if number == 0 {
         return 0;
     }
     1
