@@ -12,7 +12,7 @@ use Rattle.laws.specs.Unless.{unless}
 use Rattle.laws.proofs.Turns.{turns-once}
 use Rattle.laws.proofs.Chosen.{chosen}
 use Rattle.blocks.specs.Blocks.{blockAt}
-use Rattle.blocks.specs.Walk.{longest, refuse, pastHead, pastVoice, met, stepOf, atStart}
+use Rattle.blocks.specs.Walk.{longest, refuse, pastHead, pastVoice, atHead, atVoice, atEnd, met, stepOf, atStart}
 use Rattle.blocks.specs.Walk.{stopped, onward, walkFrom, walkedOf}
 use Rattle.blocks.specs.declared.Cause.{Cause}
 use Rattle.blocks.specs.declared.Cause.the-variants.{TooLong, OutOfTurn, EndMissing, WrongCount, Extra}
@@ -25,59 +25,41 @@ use Rattle.blocks.specs.declared.Walked.{Walked}
 use Rattle.blocks.specs.declared.Walk.{Walk}
 use Rattle.blocks.specs.declared.Moved.{Moved}
 use Rattle.blocks.specs.declared.Moved.the-variants.{On, Done}
-use Rattle.blocks.proofs.Blocks.{head-held, voice-held, end-held}
+use Rattle.blocks.proofs.Blocks.{head-held, voice-held}
 
--- the returns of `advance` and `end_walk`, by what stands at the walk's place
-module _ (s : List ℕ) (w : Walk) where
-  step-met : (b : Block) → blockAt s (w .at) ≡ b → stepOf s w ≡ met s w b
-  unfolding stepOf
-  step-met b e = ap (met s w) e
+-- the returns of `meet_head`, `meet_voice` and `meet_end`
+pub second-head : (w : Walk) (h : Heading) → w .headed ≡ true → refuse (OutOfTurn (w .at)) ≡ atHead w h
+second-head w h t = rw t
 
-  pub step-broken : (cause : Cause) → blockAt s (w .at) ≡ Broken cause → refuse cause ≡ stepOf s w
-  step-broken cause e = sym (step-met (Broken cause) e)
+pub first-head : (w : Walk) (h : Heading) → w .headed ≡ false → On (pastHead w h) ≡ atHead w h
+first-head w h t = rw t
 
-  pub second-head : (h : Heading) → blockAt s (w .at) ≡ Head h → w .headed ≡ true → refuse (OutOfTurn (w .at)) ≡ stepOf s w
-  second-head h e t = sym (step-met (Head h) e ∙ rw t)
+pub voice-first : (w : Walk) (size : ℕ) → w .headed ≡ false → refuse (OutOfTurn (w .at)) ≡ atVoice w size
+voice-first w size t = rw t
 
-  pub first-head : (h : Heading) → blockAt s (w .at) ≡ Head h → w .headed ≡ false → On (pastHead w h) ≡ stepOf s w
-  first-head h e t = sym (step-met (Head h) e ∙ rw t)
+pub voice-passed : (w : Walk) (size : ℕ) → w .headed ≡ true → On (pastVoice w size) ≡ atVoice w size
+voice-passed w size t = sym (ap (λ (b : Bool). unless b (refuse (OutOfTurn (w .at))) (On (pastVoice w size))) t)
 
-  pub voice-first : (size : ℕ) → blockAt s (w .at) ≡ Voice size → w .headed ≡ false → refuse (OutOfTurn (w .at)) ≡ stepOf s w
-  voice-first size e t = sym (step-met (Voice size) e ∙ rw t)
+module _ (long : ℕ) (w : Walk) (told : ℕ) where
+  pub end-early : w .frames ≡ 0 → refuse (OutOfTurn (w .at)) ≡ atEnd long w told
+  end-early z = rw (le-ltb 0 (w .frames) (omega arith))
 
-  pub voice-passed : (size : ℕ) → blockAt s (w .at) ≡ Voice size → w .headed ≡ true → On (pastVoice w size) ≡ stepOf s w
-  voice-passed size e t =
-      sym (step-met (Voice size) e ∙ ap (λ (b : Bool). unless b (refuse (OutOfTurn (w .at))) (On (pastVoice w size))) t)
+  module _ (some : w .frames ≡ 0 → ⊥) where
+    pub wrong-count : (told ≡ w .frames → ⊥) → refuse (WrongCount (w .at)) ≡ atEnd long w told
+    wrong-count n = rw (lt-ltb 0 (w .frames) (omega (arith, some)), ne-eqb told (w .frames) n)
 
-  module _ (told : ℕ) (e : blockAt s (w .at) ≡ End told) where
-    pub end-early : w .frames ≡ 0 → refuse (OutOfTurn (w .at)) ≡ stepOf s w
-    end-early z = sym (step-met (End told) e ∙ rw (le-ltb 0 (w .frames) (omega arith)))
+    pub extra-bytes : told ≡ w .frames → (long ≡ w .at + 6 + 4 → ⊥) → refuse (Extra (w .at + 6 + 4)) ≡ atEnd long w told
+    extra-bytes n x =
+        rw (lt-ltb 0 (w .frames) (omega (arith, some)), eq-eqb told (w .frames) n, ne-eqb long (w .at + 6 + 4) x)
 
-    module _ (some : w .frames ≡ 0 → ⊥) where
-      pub wrong-count : (told ≡ w .frames → ⊥) → refuse (WrongCount (w .at)) ≡ stepOf s w
-      wrong-count n = sym (step-met (End told) e ∙ rw (lt-ltb 0 (w .frames) (omega (arith, some)), ne-eqb told (w .frames) n))
+    pub end-right : told ≡ w .frames → long ≡ w .at + 6 + 4 → Done Sound ≡ atEnd long w told
+    end-right n x =
+        rw (lt-ltb 0 (w .frames) (omega (arith, some)), eq-eqb told (w .frames) n, eq-eqb long (w .at + 6 + 4) x)
 
-      pub extra-bytes : told ≡ w .frames → (length s ≡ w .at + 6 + 4 → ⊥) → refuse (Extra (w .at + 6 + 4)) ≡ stepOf s w
-      extra-bytes n x =
-          sym
-          (step-met (End told) e
-          ∙ rw (lt-ltb 0 (w .frames) (omega (arith, some)), eq-eqb told (w .frames) n, ne-eqb (length s) (w .at + 6 + 4) x))
-
-      pub end-right : told ≡ w .frames → length s ≡ w .at + 6 + 4 → Done Sound ≡ stepOf s w
-      end-right n x =
-          sym
-          (step-met (End told) e
-          ∙ rw (lt-ltb 0 (w .frames) (omega (arith, some)), eq-eqb told (w .frames) n, eq-eqb (length s) (w .at + 6 + 4) x))
-
-  -- the bounds that the code of a step needs
-  pub head-room : (h : Heading) → blockAt s (w .at) ≡ Head h → w .at + 6 + 8 ≤ length s
-  head-room h e = head-held s (w .at) h e .0 .fits
-
-  pub voice-room : (size : ℕ) → blockAt s (w .at) ≡ Voice size → w .at + 6 + size ≤ length s
-  voice-room size e = voice-held s (w .at) size e .0 .fits
-
-  pub end-room : (told : ℕ) → blockAt s (w .at) ≡ End told → w .at + 6 + 4 ≤ length s
-  end-room told e = end-held s (w .at) told e .0 .fits
+-- a step is what the block there does to the walk
+pub step-met : (s : List ℕ) (w : Walk) (b : Block) → blockAt s (w .at) ≡ b → met s w b ≡ stepOf s w
+unfolding stepOf
+step-met s w b e = ap (met s w) (sym e)
 
 -- what a step saw: a head or a voice block in its turn, an end block that was right, or a refusal
 pub data Stepped (s : List ℕ) (w : Walk) : Moved → Type 0 where
@@ -117,7 +99,7 @@ step-further s w next o = go (stepOf s w) (stepped s w) o
     Onward (Done ending) = Unit
 
     of : (m : Moved) → Stepped s w m → Onward m
-    of _ (passed-head h e t) = let r = head-room s w h e in record { on = omega arith; within = r; room = λ z. omega arith }
+    of _ (passed-head h e t) = let r = head-held s (w .at) h e in record { on = omega arith; within = r .0 .fits; room = λ z. omega arith }
     of _ (passed-voice size e t) =
         let r = voice-held s (w .at) size e in
         record { on = omega arith; within = r .0 .fits; room = λ z. omega (arith, r .1, r .2) }
