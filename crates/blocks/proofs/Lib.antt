@@ -2,4 +2,5 @@ pub mod Blocks
 pub mod Walks
 pub mod Voices
 pub mod Frames
+pub mod Passed
 pub mod Determined

@@ -3,7 +3,7 @@
 use mathlib.Core.Path.{_≡_, _∙_, sym, refl, ap, subst}
 use mathlib.Core.Bool.{Bool, true, false, not}
 use mathlib.Core.List.{List}
-use Prim.Native.Nat.{ℕ, suc, _+_, _-_, _*_, _<_, _≤_}
+use Prim.Native.Nat.{ℕ, zero, suc, _+_, _-_, _*_, _<_, _≤_}
 use native.Mathlib.Omega.{arith}
 use borrow.Author.Tests.{lt-ltb, le-ltb, le-leb, lt-leb, eq-eqb, ne-eqb, leb-true, ltb-true, eqb-true, not-true}
 use lib.Dec.{eqb, leb, ltb}
@@ -62,13 +62,13 @@ unfolding stepOf
 step-met s w b e = ap (met s w) (sym e)
 
 -- what a step saw: a head or a voice block in its turn, an end block that was right, or a refusal
-pub data Stepped (s : List ℕ) (w : Walk) : Moved → Type 0 where
+data Stepped (s : List ℕ) (w : Walk) : Moved → Type 0 where
   passed-head : (h : Heading) → blockAt s (w .at) ≡ Head h → w .headed ≡ false → Stepped s w (On (pastHead w h))
   passed-voice : (size : ℕ) → blockAt s (w .at) ≡ Voice size → w .headed ≡ true → Stepped s w (On (pastVoice w size))
   ended : blockAt s (w .at) ≡ End (w .frames) → 0 < w .frames → length s ≡ w .at + 6 + 4 → Stepped s w (Done Sound)
   refused : (cause : Cause) → Stepped s w (refuse cause)
 
-pub stepped : (s : List ℕ) (w : Walk) → Stepped s w (stepOf s w)
+stepped : (s : List ℕ) (w : Walk) → Stepped s w (stepOf s w)
 unfolding stepOf
 stepped s w = go (blockAt s (w .at)) refl
   where
@@ -84,6 +84,42 @@ stepped s w = go (blockAt s (w .at)) refl
         (λ c. refused (Extra (w .at + 6 + 4)))) (λ b. refused (WrongCount (w .at)))) (λ a. refused (OutOfTurn (w .at)))
     go (Broken cause) e = refused cause
 
+-- what is so past a head and past a voice block, each in its turn, is so of every walk that a step goes on to
+pub step-on : (s : List ℕ) (w next : Walk) (p : Walk → Type 0)
+    → ((h : Heading) → blockAt s (w .at) ≡ Head h → w .headed ≡ false → p (pastHead w h))
+    → ((size : ℕ) → blockAt s (w .at) ≡ Voice size → w .headed ≡ true → p (pastVoice w size)) → stepOf s w ≡ On next → p next
+step-on s w next p f g o = subst Onward o (of (stepOf s w) (stepped s w))
+  where
+    Onward : Moved → Type 0
+    Onward (On next) = p next
+    Onward (Done ending) = Unit
+
+    of : (m : Moved) → Stepped s w m → Onward m
+    of _ (passed-head h e t) = f h e t
+    of _ (passed-voice size e t) = g size e t
+    of _ (ended e c l) = tt
+    of _ (refused cause) = tt
+
+-- a step to a sound end is one at an end block that is in its turn, tells the right number and is the last
+pub record Ended (s : List ℕ) (w : Walk) : Type 0 where
+  pub block : blockAt s (w .at) ≡ End (w .frames)
+  pub some : 0 < w .frames
+  pub last : length s ≡ w .at + 6 + 4
+
+pub step-sound : (s : List ℕ) (w : Walk) → stepOf s w ≡ Done Sound → Ended s w
+step-sound s w o = subst Soundly o (of (stepOf s w) (stepped s w))
+  where
+    Soundly : Moved → Type 0
+    Soundly (On next) = Unit
+    Soundly (Done Sound) = Ended s w
+    Soundly (Done (Refused cause)) = Unit
+
+    of : (m : Moved) → Stepped s w m → Soundly m
+    of _ (passed-head h e t) = tt
+    of _ (passed-voice size e t) = tt
+    of _ (ended e c l) = record { block = e; some = c; last = l }
+    of _ (refused cause) = tt
+
 -- where a step takes a walk: further on, within the bytes, and past no more frames than there is room for
 pub record Further (s : List ℕ) (w next : Walk) : Type 0 where
   pub on : w .at < next .at
@@ -91,23 +127,12 @@ pub record Further (s : List ℕ) (w next : Walk) : Type 0 where
   pub room : 18 * w .frames ≤ w .at → 18 * next .frames ≤ next .at
 
 pub step-further : (s : List ℕ) (w next : Walk) → stepOf s w ≡ On next → Further s w next
-step-further s w next o = go (stepOf s w) (stepped s w) o
-  where
-    -- of a step that goes on, this is so; of one that ends, nothing is asked
-    Onward : Moved → Type 0
-    Onward (On next) = Further s w next
-    Onward (Done ending) = Unit
-
-    of : (m : Moved) → Stepped s w m → Onward m
-    of _ (passed-head h e t) = let r = head-held s (w .at) h e in record { on = omega arith; within = r .0 .fits; room = λ z. omega arith }
-    of _ (passed-voice size e t) =
-        let r = voice-held s (w .at) size e in
-        record { on = omega arith; within = r .0 .fits; room = λ z. omega (arith, r .1, r .2) }
-    of _ (ended e f l) = tt
-    of _ (refused cause) = tt
-
-    go : (m : Moved) → Stepped s w m → m ≡ On next → Further s w next
-    go m t o = subst Onward o (of m t)
+step-further s w next o =
+    step-on s w next (Further s w)
+    (λ h e t. let r = head-held s (w .at) h e in record { on = omega arith; within = r .0 .fits; room = λ z. omega arith })
+    (λ size e t.
+    let r = voice-held s (w .at) size e in
+    record { on = omega arith; within = r .0 .fits; room = λ z. omega (arith, r .1, r .2) }) o
 
 -- the walk is what it does in one step: the turns never run out
 pub walk-step : (s : List ℕ) (w : Walk) → walkFrom s w ≡ onward (walkFrom s) w (stepOf s w)
@@ -167,3 +192,32 @@ sound-short s e = go (leb (length s) longest) refl e
         → unless b (stopped atStart (Refused TooLong)) (walkFrom s atStart) .ending ≡ Sound → length s ≤ longest
     go true t e = leb-true (length s) longest t
     go false t e = absurd (let z : _≡_ {A = ℕ} 0 1 = cc in omega arith)
+
+-- what is so at the start and stays so at each step is so of the walk that is answered, sound or refused
+module _ (s : List ℕ) (p : Walk → Type 0) (stays : (w next : Walk) → p w → stepOf s w ≡ On next → p next) where
+  walk-keeps : (n : ℕ) (w : Walk) → length s - w .at < n → p w
+      → p (walkFrom s w .walk) × (stepOf s (walkFrom s w .walk) ≡ Done (walkFrom s w .ending))
+  walk-keeps zero w l q = absurd (omega arith)
+  walk-keeps (suc n) w l q = go (stepOf s w) refl (λ next m r. walk-keeps n next m r)
+    where
+      go : (m : Moved) → stepOf s w ≡ m
+          → ((next : Walk) → length s - next .at < n → p next
+          → p (walkFrom s next .walk) × (stepOf s (walkFrom s next .walk) ≡ Done (walkFrom s next .ending)))
+          → p (walkFrom s w .walk) × (stepOf s (walkFrom s w .walk) ≡ Done (walkFrom s w .ending))
+      go (On next) o further =
+          let f = step-further s w next o in
+          subst (λ (r : Walked). p (r .walk) × (stepOf s (r .walk) ≡ Done (r .ending))) (sym (walk-on s w next o))
+          (further next (omega (arith, f .on, f .within)) (stays w next q o))
+      go (Done ending) o further =
+          subst (λ (r : Walked). p (r .walk) × (stepOf s (r .walk) ≡ Done (r .ending))) (sym (walk-done s w ending o)) (q, o)
+
+  pub walked-keeps : p atStart → p (walkedOf s .walk)
+  unfolding walkedOf
+  walked-keeps q =
+      chosen (λ (r : Walked). p (r .walk)) (leb (length s) longest) (λ t. walk-keeps (suc (length s)) atStart (omega arith) q .0) (λ t. q)
+
+-- the walk that is answered stands at the block that ends it, unless the recording is too long
+pub walked-stops : (s : List ℕ) → length s ≤ longest → stepOf s (walkedOf s .walk) ≡ Done (walkedOf s .ending)
+walked-stops s l =
+    subst (λ (r : Walked). stepOf s (r .walk) ≡ Done (r .ending)) (sym (walked-from s l))
+    (walk-keeps s (λ w. Unit) (λ w next q o. tt) (suc (length s)) atStart (omega arith) tt .1)
