@@ -15,3 +15,5 @@ pub mod Turns
 pub mod Front
 pub mod Cases
 pub mod Chosen
+pub mod Wide
+pub mod Unless
