@@ -8,7 +8,7 @@ ghost use Rattle.laws.specs.Bytes.{pairAt, wordAt};
 ghost use Rattle.blocks.specs.Refusals.{refusalOf, toldOf};
 ghost use Rattle.blocks.specs.Blocks.{rightSize, headingAt, blockAt};
 ghost use Rattle.blocks.specs.Walk.{longest, atHead, atVoice, atEnd, stepOf, walkedOf};
-ghost use Rattle.blocks.specs.Frames.{voiceSize, spansFrom, nowhere, spanOf, voiceBlockOf, placeIn, foundAt};
+ghost use Rattle.blocks.specs.Frames.{voiceSize, spansFrom, nowhere, spanOf, voiceBlockOf, bytesOn, foundAt};
 
 // Why a recording is refused, and the place that is told.
 pub enum Cause {
@@ -325,7 +325,7 @@ pub fn walk_through(s: &[u8]) -> Walked
 // The payload of the k-th voice block, counted from 0, as that part of the bytes; the empty part where there is none.
 pub fn voice_block(s: &[u8], k: usize) -> &[u8]
     ensures { λ r. ⌜ now r ≡ voiceBlockOf (now (s .entry)) k ⌝ }
-    ensures { λ r. ⌜ ptr r ≡ placeIn (ptr (s .entry)) (spanOf (now (s .entry)) k .from) ⌝ }
+    ensures { λ r. ⌜ ptr r ≡ bytesOn (ptr (s .entry)) (spanOf (now (s .entry)) k .from) ⌝ }
 {
     let span = voice_span(s, k);
     let from = span.from;
