@@ -10,8 +10,9 @@ use borrow.Author.Tests.{eq-eqb, ne-eqb, eqb-true, eqb-false, ltb-true, ltb-fals
 use lib.Dec.{T, eqb, leb, ltb}
 use lib.ListN.{length, getD}
 use Rattle.laws.specs.Bytes.{wordAt}
-use Rattle.laws.specs.Table.{allBelow}
-use Rattle.laws.proofs.Table.{below}
+use Rattle.laws.specs.Table.{both, allBelow}
+use Rattle.laws.specs.Place.{placeIn}
+use Rattle.laws.proofs.Table.{both-left, both-right, below}
 use Rattle.laws.proofs.Chosen.{chosen}
 use Rattle.blocks.specs.Blocks.{sizeAt, kindAt, rightSize, headingAt, ofKind, blockAt}
 use Rattle.blocks.specs.Walk.{longest, refuse, pastHead, pastVoice, atEnd, met, stepOf, atStart, walkFrom, walkedOf}
@@ -19,7 +20,7 @@ use Rattle.blocks.specs.Frames.{framesOf}
 use Rattle.blocks.specs.Refusals.{refusalOf}
 use Rattle.recording.specs.Counted.{countsOf}
 use Rattle.recording.specs.Judged.{summaryOf, judgedBy, judgedOf}
-use Rattle.promises.specs.Rule.{knownKind, inTurn, Condition, order, LowestFirst, NoneMet, ClearBefore, Reached, Given}
+use Rattle.promises.specs.Rule.{knownKind, inTurn, Condition, order, tried, LowestFirst, NoneMet, ClearBefore, Reached, Given}
 use Rattle.promises.specs.Rule.{Accepted, RefusedExactly, RefusedKeeps, SoundExactly}
 use Rattle.promises.specs.Rule.Reached.{at-first, past-head, past-voice}
 use Rattle.blocks.specs.declared.Cause.{Cause}
@@ -100,12 +101,12 @@ first-alone s w c d p a q b = named s w c p ∙ ap (causeBy s w) same ∙ sym (n
 
 -- ---- lowest number first
 
--- the number of each order
-numberBy : ℕ → ℕ
-numberBy n = refusalOf (causeBy [] atStart n)
+-- the turn of the number of each order
+turnBy : ℕ → ℕ
+turnBy n = placeIn (refusalOf (causeBy [] atStart n)) tried
 
-by-order : (c : Cause) → refusalOf c ≡ numberBy (order c)
-unfolding numberBy causeBy
+by-order : (c : Cause) → placeIn (refusalOf c) tried ≡ turnBy (order c)
+unfolding turnBy causeBy
 by-order TooLong = refl
 by-order (HeaderCut p) = refl
 by-order (PastEnd p) = refl
@@ -116,23 +117,31 @@ by-order (EndMissing p) = refl
 by-order (WrongCount p) = refl
 by-order (Extra p) = refl
 
--- the numbers do not fall: computed over each pair of orders
+-- each has a turn, and a later order has no earlier one: computed over each pair of orders
 rising : ℕ → ℕ → Bool
-rising m n = cond (leb m n) (leb (numberBy m) (numberBy n)) true
+rising m n = both (leb (suc (turnBy m)) (length tried)) (cond (leb m n) (leb (turnBy m) (turnBy n)) true)
 
 all-rising : T (allBelow 9 (λ m. allBelow 9 (rising m)))
-unfolding rising numberBy causeBy
+unfolding rising turnBy causeBy placeIn
 all-rising = tt
 
-rises : (m n : ℕ) → m < 9 → n < 9 → m ≤ n → numberBy m ≤ numberBy n
+passes : (a b : ℕ) → T (leb a b) → a ≤ b
+passes a b t = go (leb a b) refl t
+  where
+    go : (x : Bool) → leb a b ≡ x → T x → a ≤ b
+    go true e t = leb-true a b e
+    go false e t = absurd t
+
+rises : (m n : ℕ) → m < 9 → n < 9 → m ≤ n → (turnBy m ≤ turnBy n) × (turnBy m < length tried)
 unfolding rising
 rises m n a b h =
     let t = below (rising m) 9 (below (λ m. allBelow 9 (rising m)) 9 all-rising m a) n b in
-    holds (leb (numberBy m) (numberBy n)) refl (subst (λ (x : Bool). T (cond x (leb (numberBy m) (numberBy n)) true)) (le-leb m n h) t)
-  where
-    holds : (b : Bool) → leb (numberBy m) (numberBy n) ≡ b → T b → numberBy m ≤ numberBy n
-    holds true e t = leb-true (numberBy m) (numberBy n) e
-    holds false e t = absurd t
+    let u = both-right (leb (suc (turnBy m)) (length tried)) (cond (leb m n) (leb (turnBy m) (turnBy n)) true) t in
+    (
+      passes (turnBy m) (turnBy n) (subst (λ (x : Bool). T (cond x (leb (turnBy m) (turnBy n)) true)) (le-leb m n h) u),
+      passes (suc (turnBy m)) (length tried)
+      (both-left (leb (suc (turnBy m)) (length tried)) (cond (leb m n) (leb (turnBy m) (turnBy n)) true) t),
+    )
 
 pub lowest-first : LowestFirst
 lowest-first c d h = rw (by-order c, by-order d) (rises (order c) (order d) (order-small c) (order-small d) h)

@@ -2,12 +2,13 @@
 -- met and none earlier is.
 use mathlib.Core.Path.{_≡_}
 use mathlib.Core.Bool.{Bool, true, false, not, cond}
-use mathlib.Core.List.{List}
+use mathlib.Core.List.{List, [], _∷_}
 use mathlib.Core.Logic.{_↔_}
 use Prim.Native.Nat.{ℕ, _+_, _<_, _≤_}
 use lib.Dec.{eqb, ltb}
 use lib.ListN.{length}
 use Rattle.laws.specs.Bytes.{wordAt}
+use Rattle.laws.specs.Place.{placeIn}
 use Rattle.blocks.specs.Blocks.{sizeAt, kindAt, rightSize, headingAt}
 use Rattle.blocks.specs.Walk.{longest, pastHead, pastVoice, atStart, walkedOf}
 use Rattle.recording.specs.Judged.{judgedOf}
@@ -43,7 +44,7 @@ Condition s w (WrongCount p) =
     (p ≡ w .at) × (w .at + 6 ≤ length s) × (kindAt s (w .at) ≡ 3) × (wordAt s (w .at + 6) ≡ w .frames → ⊥)
 Condition s w (Extra p) = (p ≡ w .at + 6 + 4) × (kindAt s (w .at) ≡ 3) × (w .at + 6 + 4 < length s)
 
--- the order in which they are tried at one block: 1, then 7 before 8, a wrong end number before bytes after the end
+-- the order in which they are tried at one block; a wrong end number comes before bytes after the end
 abbrev pub order : Cause → ℕ
 order TooLong = 0
 order (HeaderCut p) = 1
@@ -55,9 +56,14 @@ order (EndMissing p) = 6
 order (WrongCount p) = 7
 order (Extra p) = 8
 
--- lowest number first
+-- "1, then block by block, 7 before 8": the numbers as they are tried at one block. In that order the lowest number comes first.
+abbrev pub tried : List ℕ
+tried = 1 ∷ 7 ∷ 8 ∷ []
+
 abbrev pub LowestFirst : Type 0
-LowestFirst = (c d : Cause) → order c ≤ order d → refusalOf c ≤ refusalOf d
+LowestFirst =
+    (c d : Cause) → order c ≤ order d
+    → (placeIn (refusalOf c) tried ≤ placeIn (refusalOf d) tried) × (placeIn (refusalOf c) tried < length tried)
 
 -- no refusal's condition is met; none is that comes before n
 abbrev pub NoneMet : List ℕ → Walk → Type 0
