@@ -21,6 +21,7 @@ use Rattle.blocks.specs.declared.Heading.{Heading}
 use Rattle.blocks.specs.declared.Ending.the-variants.{Sound}
 use Rattle.blocks.specs.declared.Walked.{Walked}
 use Rattle.blocks.specs.declared.Walk.{Walk}
+use Rattle.blocks.specs.declared.Moved.the-variants.{Done}
 use Rattle.blocks.proofs.Blocks as blocks
 use Rattle.blocks.proofs.Blocks.{Bounds}
 use Rattle.blocks.proofs.Voices.{voice-sized, voice-bounds, voice-itself, end-no-voice, voices-none, voices-more}
@@ -263,7 +264,9 @@ module _ (s : List ℕ) (heading : Heading) (ps : List (List ℕ)) (m : MadeFrom
       (zero-add (length (framesIn ps)))
       ∙ walk-done s (walkOver heading ps) Sound
       (sym
-      (end-right (length s) (walkOver heading ps) (length (framesIn ps)) (some-frames ps (m .some) (m .positive) (m .whole)) refl long-made
+      (ap Done
+      (end-right (length s) (walkOver heading ps .at) (length (framesIn ps)) (length (framesIn ps))
+      (some-frames ps (m .some) (m .positive) (m .whole)) refl long-made)
       ∙ step-met s (walkOver heading ps) (End (length (framesIn ps))) end-there))
 
   made-payloads : payloadsOf s ≡ ps

@@ -12,7 +12,7 @@ use Rattle.laws.specs.Unless.{unless}
 use Rattle.laws.proofs.Turns.{turns-once}
 use Rattle.laws.proofs.Chosen.{chosen}
 use Rattle.blocks.specs.Blocks.{blockAt}
-use Rattle.blocks.specs.Walk.{longest, refuse, pastHead, pastVoice, atHead, atVoice, atEnd, met, stepOf, atStart}
+use Rattle.blocks.specs.Walk.{longest, refuse, pastHead, pastVoice, atHead, atVoice, endingAt, met, stepOf, atStart}
 use Rattle.blocks.specs.Walk.{stopped, onward, walkFrom, walkedOf}
 use Rattle.blocks.specs.declared.Cause.{Cause}
 use Rattle.blocks.specs.declared.Cause.the-variants.{TooLong, OutOfTurn, EndMissing, WrongCount, Extra}
@@ -27,7 +27,7 @@ use Rattle.blocks.specs.declared.Moved.{Moved}
 use Rattle.blocks.specs.declared.Moved.the-variants.{On, Done}
 use Rattle.blocks.proofs.Blocks.{head-held, voice-held}
 
--- the returns of `meet_head`, `meet_voice` and `meet_end`
+-- the returns of `meet_head`, `meet_voice` and `ending_at`
 pub second-head : (w : Walk) (h : Heading) → w .headed ≡ true → refuse (OutOfTurn (w .at)) ≡ atHead w h
 second-head w h t = rw t
 
@@ -40,21 +40,19 @@ voice-first w size t = rw t
 pub voice-passed : (w : Walk) (size : ℕ) → w .headed ≡ true → On (pastVoice w size) ≡ atVoice w size
 voice-passed w size t = sym (ap (λ (b : Bool). unless b (refuse (OutOfTurn (w .at))) (On (pastVoice w size))) t)
 
-module _ (long : ℕ) (w : Walk) (told : ℕ) where
-  pub end-early : w .frames ≡ 0 → refuse (OutOfTurn (w .at)) ≡ atEnd long w told
-  end-early z = rw (le-ltb 0 (w .frames) (omega arith))
+module _ (long at frames told : ℕ) where
+  pub end-early : frames ≡ 0 → Refused (OutOfTurn at) ≡ endingAt long at frames told
+  end-early z = rw (le-ltb 0 frames (omega arith))
 
-  module _ (some : w .frames ≡ 0 → ⊥) where
-    pub wrong-count : (told ≡ w .frames → ⊥) → refuse (WrongCount (w .at)) ≡ atEnd long w told
-    wrong-count n = rw (lt-ltb 0 (w .frames) (omega (arith, some)), ne-eqb told (w .frames) n)
+  module _ (some : frames ≡ 0 → ⊥) where
+    pub wrong-count : (told ≡ frames → ⊥) → Refused (WrongCount at) ≡ endingAt long at frames told
+    wrong-count n = rw (lt-ltb 0 frames (omega (arith, some)), ne-eqb told frames n)
 
-    pub extra-bytes : told ≡ w .frames → (long ≡ w .at + 6 + 4 → ⊥) → refuse (Extra (w .at + 6 + 4)) ≡ atEnd long w told
-    extra-bytes n x =
-        rw (lt-ltb 0 (w .frames) (omega (arith, some)), eq-eqb told (w .frames) n, ne-eqb long (w .at + 6 + 4) x)
+    pub extra-bytes : told ≡ frames → (long ≡ at + 6 + 4 → ⊥) → Refused (Extra (at + 6 + 4)) ≡ endingAt long at frames told
+    extra-bytes n x = rw (lt-ltb 0 frames (omega (arith, some)), eq-eqb told frames n, ne-eqb long (at + 6 + 4) x)
 
-    pub end-right : told ≡ w .frames → long ≡ w .at + 6 + 4 → Done Sound ≡ atEnd long w told
-    end-right n x =
-        rw (lt-ltb 0 (w .frames) (omega (arith, some)), eq-eqb told (w .frames) n, eq-eqb long (w .at + 6 + 4) x)
+    pub end-right : told ≡ frames → long ≡ at + 6 + 4 → Sound ≡ endingAt long at frames told
+    end-right n x = rw (lt-ltb 0 frames (omega (arith, some)), eq-eqb told frames n, eq-eqb long (at + 6 + 4) x)
 
 -- a step is what the block there does to the walk
 pub step-met : (s : List ℕ) (w : Walk) (b : Block) → blockAt s (w .at) ≡ b → met s w b ≡ stepOf s w
@@ -77,9 +75,9 @@ stepped s w = go (blockAt s (w .at)) refl
         chosen (Stepped s w) (not (w .headed)) (λ t. passed-head h e (not-true (w .headed) t)) (λ t. refused (OutOfTurn (w .at)))
     go (Voice size) e = chosen (Stepped s w) (w .headed) (λ t. passed-voice size e t) (λ t. refused (OutOfTurn (w .at)))
     go (End told) e =
-        chosen (Stepped s w) (ltb 0 (w .frames)) (λ a.
-        chosen (Stepped s w) (eqb told (w .frames)) (λ b.
-        chosen (Stepped s w) (eqb (length s) (w .at + 6 + 4)) (λ c.
+        chosen (λ (x : Ending). Stepped s w (Done x)) (ltb 0 (w .frames)) (λ a.
+        chosen (λ (x : Ending). Stepped s w (Done x)) (eqb told (w .frames)) (λ b.
+        chosen (λ (x : Ending). Stepped s w (Done x)) (eqb (length s) (w .at + 6 + 4)) (λ c.
         ended (e ∙ ap End (eqb-true told (w .frames) b)) (ltb-true 0 (w .frames) a) (eqb-true (length s) (w .at + 6 + 4) c))
         (λ c. refused (Extra (w .at + 6 + 4)))) (λ b. refused (WrongCount (w .at)))) (λ a. refused (OutOfTurn (w .at)))
     go (Broken cause) e = refused cause
@@ -156,28 +154,26 @@ walk-on s w next e = walk-step s w ∙ ap (onward (walkFrom s) w) e
 pub walk-done : (s : List ℕ) (w : Walk) (ending : Ending) → stepOf s w ≡ Done ending → walkFrom s w ≡ stopped w ending
 walk-done s w ending e = walk-step s w ∙ ap (onward (walkFrom s) w) e
 
--- the loop of `walk_through`: what is left to walk comes to the answer of the whole
-pub record Walking (s : List ℕ) (w : Walk) : Type 0 where
-  pub rest : walkFrom s w ≡ walkFrom s atStart
-  pub within : w .at ≤ length s
+-- the loop of `walk_from`: what is left to walk comes to the answer of the whole
+pub record Walking (s : List ℕ) (start w : Walk) : Type 0 where
+  pub rest : walkFrom s w ≡ walkFrom s start
   pub room : 18 * w .frames ≤ w .at
 
-pub walking-start : (s : List ℕ) → Walking s atStart
-walking-start s = record { rest = refl; within = omega arith; room = omega arith }
+pub walking-start : (s : List ℕ) (w : Walk) → 18 * w .frames ≤ w .at → Walking s w w
+walking-start s w r = record { rest = refl; room = r }
 
-pub walking-on : {s : List ℕ} {w : Walk} (next : Walk) → Walking s w → stepOf s w ≡ On next → Walking s next
-walking-on {s} {w} next k e =
-    let f = step-further s w next e in
-    record { rest = sym (walk-on s w next e) ∙ k .rest; within = f .within; room = f .room (k .room) }
+pub walking-on : {s : List ℕ} {start w : Walk} (next : Walk) → Walking s start w → stepOf s w ≡ On next → Walking s start next
+walking-on {s} {start} {w} next k e =
+    record { rest = sym (walk-on s w next e) ∙ k .rest; room = step-further s w next e .room (k .room) }
+
+pub walking-done : {s : List ℕ} {start w : Walk} (ending : Ending) → Walking s start w → stepOf s w ≡ Done ending
+    → stopped w ending ≡ walkFrom s start
+walking-done {s} {start} {w} ending k e = sym (walk-done s w ending e) ∙ k .rest
 
 -- short enough, the whole is the walk from the start
 pub walked-from : (s : List ℕ) → length s ≤ longest → walkedOf s ≡ walkFrom s atStart
 unfolding walkedOf
 walked-from s l = rw (le-leb (length s) longest l)
-
-pub walking-done : {s : List ℕ} {w : Walk} (ending : Ending) → length s ≤ longest → Walking s w → stepOf s w ≡ Done ending
-    → stopped w ending ≡ walkedOf s
-walking-done {s} {w} ending l k e = sym (walk-done s w ending e) ∙ k .rest ∙ sym (walked-from s l)
 
 pub too-long : (s : List ℕ) → longest < length s → stopped atStart (Refused TooLong) ≡ walkedOf s
 unfolding walkedOf

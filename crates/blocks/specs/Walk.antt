@@ -58,17 +58,17 @@ atHead w heading = unless (not (w .headed)) (refuse (OutOfTurn (w .at))) (On (pa
 abbrev pub atVoice : Walk → ℕ → Moved
 atVoice w size = unless (w .headed) (refuse (OutOfTurn (w .at))) (On (pastVoice w size))
 
-abbrev pub atEnd : ℕ → Walk → ℕ → Moved
-atEnd long w told =
-    unless (ltb 0 (w .frames)) (refuse (OutOfTurn (w .at)))
-    (unless (eqb told (w .frames)) (refuse (WrongCount (w .at)))
-    (unless (eqb long (w .at + 6 + 4)) (refuse (Extra (w .at + 6 + 4)))
-    (Done Sound)))
+abbrev pub endingAt : ℕ → ℕ → ℕ → ℕ → Ending
+endingAt long at frames told =
+    unless (ltb 0 frames) (Refused (OutOfTurn at))
+    (unless (eqb told frames) (Refused (WrongCount at))
+    (unless (eqb long (at + 6 + 4)) (Refused (Extra (at + 6 + 4)))
+    Sound))
 
 abbrev pub met : List ℕ → Walk → Block → Moved
 met s w (Head heading) = atHead w heading
 met s w (Voice size) = atVoice w size
-met s w (End told) = atEnd (length s) w told
+met s w (End told) = Done (endingAt (length s) (w .at) (w .frames) told)
 met s w (Broken cause) = refuse cause
 
 -- one step: the walk past the block, or how it ends

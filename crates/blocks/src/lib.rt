@@ -7,7 +7,8 @@ ghost use lib.ListN.{length, getD};
 ghost use Rattle.laws.specs.Bytes.{pairAt, wordAt};
 ghost use Rattle.blocks.specs.Refusals.{refusalOf, toldOf};
 ghost use Rattle.blocks.specs.Blocks.{rightSize, headingAt, blockAt};
-ghost use Rattle.blocks.specs.Walk.{longest, atHead, atVoice, atEnd, stepOf, walkedOf};
+ghost use Rattle.blocks.specs.Walk.{longest, refuse, atHead, atVoice, endingAt, stepOf, walkFrom, walkedOf};
+ghost use Rattle.blocks.specs.declared.Moved.the-variants.{Done};
 ghost use Rattle.blocks.specs.Frames.{voiceSize, spansFrom, nowhere, spanOf, voiceBlockOf, bytesOn, foundAt};
 
 // Why a recording is refused, and the place that is told.
@@ -230,13 +231,20 @@ fn advance(s: &[u8], w: Walk) -> Moved
     ensures { λ r. ⌜ r ≡ stepOf (now (s .entry)) w ⌝ }
 {
     let at = w.at;
-    let long = s.len();
+    let frames = w.frames;
     match block_at(s, at) {
         Block::Head(heading) => meet_head(w, heading),
         Block::Voice(size) => meet_voice(w, size),
-        Block::End(told) => meet_end(long, w, told),
-        Block::Broken(cause) => Moved::Done(Ending::Refused(cause)),
+        Block::End(told) => meet_end(s.len(), at, frames, told),
+        Block::Broken(cause) => refuse(cause),
     }
+}
+
+// A step to a refusal.
+fn refuse(cause: Cause) -> Moved
+    ensures { λ r. ⌜ r ≡ refuse cause ⌝ }
+{
+    Moved::Done(Ending::Refused(cause))
 }
 
 // A walk that comes to a head: past it, where none was passed before.
@@ -246,7 +254,7 @@ fn meet_head(w: Walk, heading: Heading) -> Moved
 {
     let at = w.at;
     if w.headed {
-        return Moved::Done(Ending::Refused(Cause::OutOfTurn(at)));
+        return refuse(Cause::OutOfTurn(at));
     }
     let next = at + 6 + 8;
     Moved::On(Walk {
@@ -274,34 +282,40 @@ fn meet_voice(w: Walk, size: usize) -> Moved
         further.frames = frames;
         return Moved::On(further);
     }
-    Moved::Done(Ending::Refused(Cause::OutOfTurn(at)))
+    refuse(Cause::OutOfTurn(at))
 }
 
-// A walk that comes to an end block that tells a number of frames, in so many bytes in all.
-fn meet_end(long: usize, w: Walk, told: u32) -> Moved
-    requires { ⌜ w .at + 6 + 4 ≤ longest ⌝ }
-    ensures { λ r. ⌜ r ≡ atEnd long w told ⌝ }
+// A walk past so many frames that comes to an end block that tells a number of frames, in so many bytes in all.
+fn meet_end(long: usize, at: usize, frames: u32, told: u32) -> Moved
+    requires { ⌜ at + 6 + 4 ≤ longest ⌝ }
+    ensures { λ r. ⌜ r ≡ Done (endingAt long at frames told) ⌝ }
 {
-    let at = w.at;
-    let frames = w.frames;
+    Moved::Done(ending_at(long, at, frames, told))
+}
+
+// How it ends there.
+fn ending_at(long: usize, at: usize, frames: u32, told: u32) -> Ending
+    requires { ⌜ at + 6 + 4 ≤ longest ⌝ }
+    ensures { λ r. ⌜ r ≡ endingAt long at frames told ⌝ }
+{
     if frames == 0 {
-        return Moved::Done(Ending::Refused(Cause::OutOfTurn(at)));
+        return Ending::Refused(Cause::OutOfTurn(at));
     }
     if told != frames {
-        return Moved::Done(Ending::Refused(Cause::WrongCount(at)));
+        return Ending::Refused(Cause::WrongCount(at));
     }
     let after = at + 6 + 4;
     if long != after {
-        return Moved::Done(Ending::Refused(Cause::Extra(after)));
+        return Ending::Refused(Cause::Extra(after));
     }
-    Moved::Done(Ending::Sound)
+    Ending::Sound
 }
 
 // Walks through the blocks of any bytes: what was passed, and whether the recording is sound or why it is refused.
 pub fn walk_through(s: &[u8]) -> Walked
     ensures { λ r. ⌜ r ≡ walkedOf (now (s .entry)) ⌝ }
 {
-    let mut walk = Walk {
+    let walk = Walk {
         at: 0,
         headed: false,
         heading: Heading { unit: 0, number: 0 },
@@ -314,6 +328,16 @@ pub fn walk_through(s: &[u8]) -> Walked
             ending: Ending::Refused(Cause::TooLong),
         };
     }
+    walk_from(s, walk)
+}
+
+// The same from any block on, step by step to the end.
+fn walk_from(s: &[u8], start: Walk) -> Walked
+    requires { ⌜ length (now s) ≤ longest ⌝ }
+    requires { ⌜ 18 * start .frames ≤ start .at ⌝ }
+    ensures { λ r. ⌜ r ≡ walkFrom (now (s .entry)) start ⌝ }
+{
+    let mut walk = start;
     loop {
         match advance(s, walk) {
             Moved::On(next) => walk = next,

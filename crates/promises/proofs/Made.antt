@@ -20,11 +20,10 @@ use Rattle.promises.proofs.Rule.{judged-sound, walked-judged}
 pub made-is-sound : MadeIsSound
 unfolding framesOf
 made-is-sound s heading ps m =
-    let e = made-is-walked s heading ps m in
-    (
+    let e = made-is-walked s heading ps m in (
       walked-judged s Sound (ap (λ (w : Walked). w .ending) (e .0))
-      ∙ ap₂ (λ (w : Walk) (fs : List (List ℕ)). Judged.Sound (summaryOf w (countsOf fs))) (ap (λ (w : Walked). w .walk) (e .0))
-      (ap framesIn (e .1)),
+          ∙ ap₂ (λ (w : Walk) (fs : List (List ℕ)). Judged.Sound (summaryOf w (countsOf fs))) (ap (λ (w : Walked). w .walk) (e .0))
+          (ap framesIn (e .1)),
       e .1,
     )
 

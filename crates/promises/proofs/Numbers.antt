@@ -197,12 +197,14 @@ module _ (s : List ℕ) where
     where
       go : (x : Ending) → walkedOf s .ending ≡ x
           → (judgedRefusal (judgedOf s) ≡ walkedRefusal (walkedOf s)) × (judgedTells (judgedOf s) ≡ walkedTells (walkedOf s))
-      go Ending.Sound e =
-          (ap judgedRefusal (walked-judged s Ending.Sound e) ∙ sym (ap endingRefusal e),
-          ap judgedTells (walked-judged s Ending.Sound e) ∙ sym (ap endingTells e))
-      go (Ending.Refused c) e =
-          (ap judgedRefusal (walked-judged s (Ending.Refused c) e) ∙ sym (ap endingRefusal e),
-          ap judgedTells (walked-judged s (Ending.Refused c) e) ∙ sym (ap endingTells e))
+      go Ending.Sound e = (
+        ap judgedRefusal (walked-judged s Ending.Sound e) ∙ sym (ap endingRefusal e),
+        ap judgedTells (walked-judged s Ending.Sound e) ∙ sym (ap endingTells e),
+      )
+      go (Ending.Refused c) e = (
+        ap judgedRefusal (walked-judged s (Ending.Refused c) e) ∙ sym (ap endingRefusal e),
+        ap judgedTells (walked-judged s (Ending.Refused c) e) ∙ sym (ap endingTells e),
+      )
 
 pub recording-numbers : RecordingNumbers
 unfolding RecordingNumbers

@@ -15,7 +15,7 @@ use Rattle.laws.specs.Place.{placeIn}
 use Rattle.laws.proofs.Table.{both-left, both-right, below}
 use Rattle.laws.proofs.Chosen.{chosen}
 use Rattle.blocks.specs.Blocks.{sizeAt, kindAt, rightSize, headingAt, ofKind, blockAt}
-use Rattle.blocks.specs.Walk.{longest, refuse, pastHead, pastVoice, atEnd, met, stepOf, atStart, walkFrom, walkedOf}
+use Rattle.blocks.specs.Walk.{longest, refuse, pastHead, pastVoice, endingAt, met, stepOf, atStart, walkFrom, walkedOf}
 use Rattle.blocks.specs.Frames.{framesOf}
 use Rattle.blocks.specs.Refusals.{refusalOf}
 use Rattle.recording.specs.Counted.{countsOf}
@@ -136,11 +136,10 @@ rises : (m n : ℕ) → m < 9 → n < 9 → m ≤ n → (turnBy m ≤ turnBy n) 
 unfolding rising
 rises m n a b h =
     let t = below (rising m) 9 (below (λ m. allBelow 9 (rising m)) 9 all-rising m a) n b in
-    let u = both-right (leb (suc (turnBy m)) (length tried)) (cond (leb m n) (leb (turnBy m) (turnBy n)) true) t in
-    (
+    let u = both-right (leb (suc (turnBy m)) (length tried)) (cond (leb m n) (leb (turnBy m) (turnBy n)) true) t in (
       passes (turnBy m) (turnBy n) (subst (λ (x : Bool). T (cond x (leb (turnBy m) (turnBy n)) true)) (le-leb m n h) u),
       passes (suc (turnBy m)) (length tried)
-      (both-left (leb (suc (turnBy m)) (length tried)) (cond (leb m n) (leb (turnBy m) (turnBy n)) true) t),
+          (both-left (leb (suc (turnBy m)) (length tried)) (cond (leb m n) (leb (turnBy m) (turnBy n)) true) t),
     )
 
 pub lowest-first : LowestFirst
@@ -262,11 +261,11 @@ module _ (s : List ℕ) (w : Walk) (inside : w .at ≤ length s) (short : length
             clean-end count h = clear-all s w (clear-more s w 8 (clear-count count) (λ q. omega (arith, q .2)))
 
         -- what a block of the right size does, by its kind
-        see-end : kind ≡ 3 → Seen s w (atEnd (length s) w (wordAt s (w .at + 6)))
+        see-end : kind ≡ 3 → Seen s w (Done (endingAt (length s) (w .at) (w .frames) (wordAt s (w .at + 6))))
         see-end k =
-            chosen (Seen s w) (ltb 0 (w .frames)) (λ a.
-            chosen (Seen s w) (eqb (wordAt s (w .at + 6)) (w .frames)) (λ b.
-            chosen (Seen s w) (eqb (length s) (w .at + 6 + 4)) (λ c.
+            chosen (λ (x : Ending). Seen s w (Done x)) (ltb 0 (w .frames)) (λ a.
+            chosen (λ (x : Ending). Seen s w (Done x)) (eqb (wordAt s (w .at + 6)) (w .frames)) (λ b.
+            chosen (λ (x : Ending). Seen s w (Done x)) (eqb (length s) (w .at + 6 + 4)) (λ c.
             let e = eqb-true (length s) (w .at + 6 + 4) c in
             seen-end (clean-end (known-end k) (turn-end w k ∙ a) (eqb-true (wordAt s (w .at + 6)) (w .frames) b) (omega (arith, e))) k)
             (λ c.

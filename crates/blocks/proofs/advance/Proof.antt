@@ -22,19 +22,23 @@ meet-end-requires c κs =
     omega (arith, r .0 .fits, c .before .before .before .before .before .pre)
 
 returns : tie.Need-returns
-returns c = c .meet-head .ensures ∙ step-met _ _ _ (sym (c .before .before .before .before .block-at .ensures) ∙ c .before .before .heading .given .1)
+returns c =
+    c .meet-head .ensures ∙ step-met _ _ _ (sym (c .before .before .before .before .block-at .ensures) ∙ c .before .before .heading .given .1)
 
 returns-2 : tie.Need-returns-2
-returns-2 c = c .meet-voice .ensures ∙ step-met _ _ _ (sym (c .before .before .before .before .block-at .ensures) ∙ c .before .before .size .given .1)
+returns-2 c =
+    c .meet-voice .ensures ∙ step-met _ _ _ (sym (c .before .before .before .before .block-at .ensures) ∙ c .before .before .size .given .1)
 
 returns-3 : tie.Need-returns-3
-returns-3 c = c .meet-end .ensures ∙ step-met _ _ _ (sym (c .before .before .before .before .block-at .ensures) ∙ c .before .before .told .given .1)
+returns-3 c =
+    c .meet-end .ensures ∙ step-met _ _ _ (sym (c .before .before .before .before .block-at .ensures) ∙ c .before .before .told .given .1)
 
 returns-4 : tie.Need-returns-4
-returns-4 c = step-met _ _ _ (sym (c .before .before .before .block-at .ensures) ∙ c .before .cause .given .1)
+returns-4 c =
+    c .refuse .ensures ∙ step-met _ _ _ (sym (c .before .before .before .before .block-at .ensures) ∙ c .before .before .cause .given .1)
 
 pub advance-spec : {M : Type 1} → statement M
 advance-spec =
     tie.close
     (tie.spec (search needs) (search needs) meet-head-requires (search needs) meet-voice-requires (search needs) meet-end-requires
-    (search needs) returns returns-2 returns-3 returns-4)
+    (search needs) (search needs) returns returns-2 returns-3 returns-4)

@@ -1,21 +1,7 @@
-use native.Mathlib.Omega.{arith}
-use Rattle.blocks.proofs.Walks.{end-early, wrong-count, extra-bytes, end-right}
+use mathlib.Core.Path.{ap}
+use Rattle.blocks.specs.declared.Moved.the-variants.{Done}
 use Rattle.blocks.proofs.meet_end.Statement.{statement}
 use Rattle.blocks.proofs.meet_end.Tie as tie
 
-returns : tie.Need-returns
-returns c = end-early _ (c .before .args .w) _ (c .if1 .taken)
-
-returns-2 : tie.Need-returns-2
-returns-2 c = wrong-count _ (c .before .before .args .w) _ (c .before .if1 .left) (c .if2 .taken)
-
-returns-3 : tie.Need-returns-3
-returns-3 c = extra-bytes _ (c .before .before .before .args .w) _ (c .before .before .if1 .left) (c .before .if2 .left) (c .if3 .taken)
-
-returns-4 : tie.Need-returns-4
-returns-4 c = end-right _ (c .before .before .before .args .w) _ (c .before .before .if1 .left) (c .before .if2 .left) (c .if3 .left)
-
 pub meet-end-spec : {M : Type 1} → statement M
-meet-end-spec =
-    tie.close
-    (tie.spec returns returns-2 (λ c. omega (arith, c .before .before .pre)) (λ c. omega (arith, c .before .before .pre)) returns-3 returns-4)
+meet-end-spec = tie.close (tie.spec (λ c κs. c .pre) (λ c. ap Done (c .ending-at .ensures)))
