@@ -66,8 +66,8 @@ unfoldable pub voiceBlockOf : List ℕ → ℕ → List ℕ
 voiceBlockOf s k = bytesAt s (spanOf s k)
 
 -- a place in the bytes that a reference points to: in the same buffer, so many bytes on
-abbrev pub placeIn : ℕ × ℕ → ℕ → ℕ × ℕ
-placeIn p n = (p .0, n + p .1)
+abbrev pub bytesOn : ℕ × ℕ → ℕ → ℕ × ℕ
+bytesOn p n = (p .0, n + p .1)
 
 -- a payload cut into its frames of eighteen bytes
 unfoldable pub cut : ℕ → List ℕ → List (List ℕ)

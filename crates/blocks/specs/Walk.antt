@@ -50,19 +50,25 @@ pastVoice w size =
       frames = w .frames + size / 18;
     }
 
--- the end block: in its turn after a voice block; it tells the number of frames; nothing comes after its payload of four bytes
-abbrev pub atEnd : List ℕ → Walk → ℕ → Moved
-atEnd s w told =
-    unless (ltb 0 (w .frames)) (refuse (OutOfTurn (w .at)))
-    (unless (eqb told (w .frames)) (refuse (WrongCount (w .at)))
-    (unless (eqb (length s) (w .at + 6 + 4)) (refuse (Extra (w .at + 6 + 4)))
-    (Done Sound)))
+-- what a block does to the walk that comes to it. A head is in its turn where there was none, a voice block after the head, the end
+-- after a voice block; the end tells the number of frames, and nothing comes after its payload of four bytes.
+abbrev pub atHead : Walk → Heading → Moved
+atHead w heading = unless (not (w .headed)) (refuse (OutOfTurn (w .at))) (On (pastHead w heading))
 
--- what a block does to the walk that comes to it: a head is in its turn where there was none, a voice block after the head
+abbrev pub atVoice : Walk → ℕ → Moved
+atVoice w size = unless (w .headed) (refuse (OutOfTurn (w .at))) (On (pastVoice w size))
+
+abbrev pub endingAt : ℕ → ℕ → ℕ → ℕ → Ending
+endingAt long at frames told =
+    unless (ltb 0 frames) (Refused (OutOfTurn at))
+    (unless (eqb told frames) (Refused (WrongCount at))
+    (unless (eqb long (at + 6 + 4)) (Refused (Extra (at + 6 + 4)))
+    Sound))
+
 abbrev pub met : List ℕ → Walk → Block → Moved
-met s w (Head heading) = unless (not (w .headed)) (refuse (OutOfTurn (w .at))) (On (pastHead w heading))
-met s w (Voice size) = unless (w .headed) (refuse (OutOfTurn (w .at))) (On (pastVoice w size))
-met s w (End told) = atEnd s w told
+met s w (Head heading) = atHead w heading
+met s w (Voice size) = atVoice w size
+met s w (End told) = Done (endingAt (length s) (w .at) (w .frames) told)
 met s w (Broken cause) = refuse cause
 
 -- one step: the walk past the block, or how it ends

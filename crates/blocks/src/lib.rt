@@ -6,11 +6,10 @@ ghost use Prim.Native.Nat.{_+_, _-_, _*_, _≤_, _<_};
 ghost use lib.ListN.{length, getD};
 ghost use Rattle.laws.specs.Bytes.{pairAt, wordAt};
 ghost use Rattle.blocks.specs.Refusals.{refusalOf, toldOf};
-ghost use Rattle.blocks.specs.Blocks.{rightSize, blockAt};
-ghost use Rattle.blocks.specs.Walk.{longest, stepOf, walkedOf};
-ghost use Rattle.blocks.specs.Frames.{voiceSize, spansFrom, nowhere, spanOf, voiceBlockOf, placeIn, foundAt};
-ghost use Rattle.blocks.specs.declared.Block.the-variants.{End};
+ghost use Rattle.blocks.specs.Blocks.{rightSize, headingAt, blockAt};
+ghost use Rattle.blocks.specs.Walk.{longest, refuse, atHead, atVoice, endingAt, stepOf, walkFrom, walkedOf};
 ghost use Rattle.blocks.specs.declared.Moved.the-variants.{Done};
+ghost use Rattle.blocks.specs.Frames.{voiceSize, spansFrom, nowhere, spanOf, voiceBlockOf, bytesOn, foundAt};
 
 // Why a recording is refused, and the place that is told.
 pub enum Cause {
@@ -181,21 +180,29 @@ fn block_by_kind(s: &[u8], at: usize, size: usize) -> Block
     if !right_size(kind, size) {
         return Block::Broken(Cause::WrongSize(at));
     }
-    let body = at + 6;
     if kind == 1 {
-        let unit = word(s, body);
-        let number_at = at + 10;
-        let number = word(s, number_at);
-        return Block::Head(Heading { unit, number });
+        return Block::Head(heading_at(s, at));
     }
     if kind == 2 {
         return Block::Voice(size);
     }
     if kind == 3 {
-        let told = word(s, body);
-        return Block::End(told);
+        let body = at + 6;
+        return Block::End(word(s, body));
     }
     Block::Broken(Cause::UnknownKind(at))
+}
+
+// What the head at a place holds.
+fn heading_at(s: &[u8], at: usize) -> Heading
+    requires { ⌜ at + 6 + 8 ≤ length (now s) ⌝ }
+    ensures { λ r. ⌜ r ≡ headingAt (now (s .entry)) at ⌝ }
+{
+    let unit_at = at + 6;
+    let unit = word(s, unit_at);
+    let number_at = at + 10;
+    let number = word(s, number_at);
+    Heading { unit, number }
 }
 
 // Whether a payload's size is right for its kind; a kind that is unknown has no wrong size.
@@ -224,51 +231,81 @@ fn advance(s: &[u8], w: Walk) -> Moved
     ensures { λ r. ⌜ r ≡ stepOf (now (s .entry)) w ⌝ }
 {
     let at = w.at;
+    let frames = w.frames;
     match block_at(s, at) {
-        Block::Broken(cause) => Moved::Done(Ending::Refused(cause)),
-        Block::Head(heading) => {
-            if w.headed {
-                return Moved::Done(Ending::Refused(Cause::OutOfTurn(at)));
-            }
-            let next = at + 6 + 8;
-            Moved::On(Walk {
-                at: next,
-                headed: true,
-                heading,
-                voices: next,
-                frames: w.frames,
-            })
-        }
-        Block::Voice(size) => {
-            if w.headed {
-                let next = at + 6 + size;
-                let more = (size / 18) as u32;
-                let frames = w.frames + more;
-                let mut further = w;
-                further.at = next;
-                further.frames = frames;
-                return Moved::On(further);
-            }
-            Moved::Done(Ending::Refused(Cause::OutOfTurn(at)))
-        }
-        Block::End(told) => Moved::Done(end_walk(s, w, told)),
+        Block::Head(heading) => meet_head(w, heading),
+        Block::Voice(size) => meet_voice(w, size),
+        Block::End(told) => meet_end(s.len(), at, frames, told),
+        Block::Broken(cause) => refuse(cause),
     }
 }
 
-// How a walk ends at an end block that tells a number of frames.
-fn end_walk(s: &[u8], w: Walk, told: u32) -> Ending
-    requires { ⌜ blockAt (now s) (w .at) ≡ End told ⌝ }
-    ensures { λ r. ⌜ Done r ≡ stepOf (now (s .entry)) w ⌝ }
+// A step to a refusal.
+fn refuse(cause: Cause) -> Moved
+    ensures { λ r. ⌜ r ≡ refuse cause ⌝ }
+{
+    Moved::Done(Ending::Refused(cause))
+}
+
+// A walk that comes to a head: past it, where none was passed before.
+fn meet_head(w: Walk, heading: Heading) -> Moved
+    requires { ⌜ w .at + 6 + 8 ≤ longest ⌝ }
+    ensures { λ r. ⌜ r ≡ atHead w heading ⌝ }
 {
     let at = w.at;
-    if w.frames == 0 {
+    if w.headed {
+        return refuse(Cause::OutOfTurn(at));
+    }
+    let next = at + 6 + 8;
+    Moved::On(Walk {
+        at: next,
+        headed: true,
+        heading,
+        voices: next,
+        frames: w.frames,
+    })
+}
+
+// A walk that comes to a voice block: past it and its frames, where the head was passed before.
+fn meet_voice(w: Walk, size: usize) -> Moved
+    requires { ⌜ w .at + 6 + size ≤ longest ⌝ }
+    requires { ⌜ 18 * w .frames ≤ w .at ⌝ }
+    ensures { λ r. ⌜ r ≡ atVoice w size ⌝ }
+{
+    let at = w.at;
+    if w.headed {
+        let next = at + 6 + size;
+        let more = (size / 18) as u32;
+        let frames = w.frames + more;
+        let mut further = w;
+        further.at = next;
+        further.frames = frames;
+        return Moved::On(further);
+    }
+    refuse(Cause::OutOfTurn(at))
+}
+
+// A walk past so many frames that comes to an end block that tells a number of frames, in so many bytes in all.
+fn meet_end(long: usize, at: usize, frames: u32, told: u32) -> Moved
+    requires { ⌜ at + 6 + 4 ≤ longest ⌝ }
+    ensures { λ r. ⌜ r ≡ Done (endingAt long at frames told) ⌝ }
+{
+    Moved::Done(ending_at(long, at, frames, told))
+}
+
+// How it ends there.
+fn ending_at(long: usize, at: usize, frames: u32, told: u32) -> Ending
+    requires { ⌜ at + 6 + 4 ≤ longest ⌝ }
+    ensures { λ r. ⌜ r ≡ endingAt long at frames told ⌝ }
+{
+    if frames == 0 {
         return Ending::Refused(Cause::OutOfTurn(at));
     }
-    if told != w.frames {
+    if told != frames {
         return Ending::Refused(Cause::WrongCount(at));
     }
     let after = at + 6 + 4;
-    if s.len() != after {
+    if long != after {
         return Ending::Refused(Cause::Extra(after));
     }
     Ending::Sound
@@ -278,7 +315,7 @@ fn end_walk(s: &[u8], w: Walk, told: u32) -> Ending
 pub fn walk_through(s: &[u8]) -> Walked
     ensures { λ r. ⌜ r ≡ walkedOf (now (s .entry)) ⌝ }
 {
-    let mut walk = Walk {
+    let walk = Walk {
         at: 0,
         headed: false,
         heading: Heading { unit: 0, number: 0 },
@@ -291,6 +328,16 @@ pub fn walk_through(s: &[u8]) -> Walked
             ending: Ending::Refused(Cause::TooLong),
         };
     }
+    walk_from(s, walk)
+}
+
+// The same from any block on, step by step to the end.
+fn walk_from(s: &[u8], start: Walk) -> Walked
+    requires { ⌜ length (now s) ≤ longest ⌝ }
+    requires { ⌜ 18 * start .frames ≤ start .at ⌝ }
+    ensures { λ r. ⌜ r ≡ walkFrom (now (s .entry)) start ⌝ }
+{
+    let mut walk = start;
     loop {
         match advance(s, walk) {
             Moved::On(next) => walk = next,
@@ -302,7 +349,7 @@ pub fn walk_through(s: &[u8]) -> Walked
 // The payload of the k-th voice block, counted from 0, as that part of the bytes; the empty part where there is none.
 pub fn voice_block(s: &[u8], k: usize) -> &[u8]
     ensures { λ r. ⌜ now r ≡ voiceBlockOf (now (s .entry)) k ⌝ }
-    ensures { λ r. ⌜ ptr r ≡ placeIn (ptr (s .entry)) (spanOf (now (s .entry)) k .from) ⌝ }
+    ensures { λ r. ⌜ ptr r ≡ bytesOn (ptr (s .entry)) (spanOf (now (s .entry)) k .from) ⌝ }
 {
     let span = voice_span(s, k);
     let from = span.from;
