@@ -1,15 +1,15 @@
 // The blocks of a recording, walked one after the other to an answer; its voice blocks, and where the frames in them stand.
 // A walk comes to a place of the bytes and knows what it has passed; what stands there takes it on or ends it.
+ghost use denote.Ref.{ptr};
 ghost use mathlib.Core.Path.{_≡_};
-ghost use mathlib.Core.List.{[]};
 ghost use Prim.Native.Nat.{_+_, _-_, _*_, _≤_, _<_};
 ghost use lib.ListN.{length, getD};
 ghost use Rattle.laws.specs.Bytes.{pairAt, wordAt};
-ghost use Rattle.blocks.specs.Blocks.{blockAt};
-ghost use Rattle.blocks.specs.Walk.{longest, stepOf, walkedOf};
-ghost use Rattle.blocks.specs.Frames.{voiceSize, voicesFrom, afterHead, voiceBlockOf, Spans, foundAt};
-ghost use Rattle.blocks.specs.declared.Block.the-variants.{End};
+ghost use Rattle.blocks.specs.Refusals.{refusalOf, toldOf};
+ghost use Rattle.blocks.specs.Blocks.{rightSize, headingAt, blockAt};
+ghost use Rattle.blocks.specs.Walk.{longest, refuse, atHead, atVoice, endingAt, stepOf, walkFrom, walkedOf};
 ghost use Rattle.blocks.specs.declared.Moved.the-variants.{Done};
+ghost use Rattle.blocks.specs.Frames.{voiceSize, spansFrom, nowhere, spanOf, voiceBlockOf, bytesOn, foundAt};
 
 // Why a recording is refused, and the place that is told.
 pub enum Cause {
@@ -24,41 +24,53 @@ pub enum Cause {
     Extra(usize),
 }
 
-// What stands at a place: a head with unit and recording number, a voice block with its payload's size, an end with the number
-// that it tells, or why there is no block.
+// What a refusal tells.
+pub enum Told {
+    Nothing,
+    Place(usize),
+}
+
+// What a head holds.
+pub struct Heading {
+    pub unit: u32,
+    pub number: u32,
+}
+
+// What stands at a place: a head, a voice block with its payload's size, an end with the number that it tells, or why there is
+// no block.
 pub enum Block {
-    Head(u32, u32),
+    Head(Heading),
     Voice(usize),
     End(u32),
     Broken(Cause),
 }
 
-// What a sound recording's blocks tell: unit and recording number, and how many frames.
-pub struct Heading {
-    pub unit: u32,
-    pub number: u32,
-    pub frames: u32,
-}
-
-// What the blocks of a recording come to.
-pub enum Walked {
-    Whole(Heading),
-    Refused(Cause),
-}
-
-// A walk before the block at `at`: whether the head was passed and what it told, and how many frames were passed.
+// A walk before the block at `at`: whether the head was passed, what it held and where the voice blocks begin after it, and how
+// many frames were passed.
 pub struct Walk {
     pub at: usize,
     pub headed: bool,
-    pub unit: u32,
-    pub number: u32,
+    pub heading: Heading,
+    pub voices: usize,
     pub frames: u32,
 }
 
-// A step of a walk: past a block, or to the answer.
+// How a walk ends.
+pub enum Ending {
+    Sound,
+    Refused(Cause),
+}
+
+// What the blocks of a recording come to: the walk before the block at which it ends, and how it ends there.
+pub struct Walked {
+    pub walk: Walk,
+    pub ending: Ending,
+}
+
+// A step of a walk: past a block, or to the end.
 pub enum Moved {
     On(Walk),
-    Done(Walked),
+    Done(Ending),
 }
 
 // A part of the bytes, from its first to the one after its last.
@@ -71,6 +83,40 @@ pub struct Span {
 pub enum Found {
     At(usize, usize),
     Nothing,
+}
+
+// The number of a refusal.
+pub fn refusal_number(cause: Cause) -> u32
+    ensures { λ r. ⌜ r ≡ refusalOf cause ⌝ }
+{
+    match cause {
+        Cause::TooLong => 1,
+        Cause::HeaderCut(_) => 7,
+        Cause::PastEnd(_) => 7,
+        Cause::WrongSize(_) => 7,
+        Cause::UnknownKind(_) => 8,
+        Cause::OutOfTurn(_) => 8,
+        Cause::EndMissing(_) => 8,
+        Cause::WrongCount(_) => 8,
+        Cause::Extra(_) => 8,
+    }
+}
+
+// What a refusal tells beside its number.
+pub fn tells(cause: Cause) -> Told
+    ensures { λ r. ⌜ r ≡ toldOf cause ⌝ }
+{
+    match cause {
+        Cause::TooLong => Told::Nothing,
+        Cause::HeaderCut(p) => Told::Place(p),
+        Cause::PastEnd(p) => Told::Place(p),
+        Cause::WrongSize(p) => Told::Place(p),
+        Cause::UnknownKind(p) => Told::Place(p),
+        Cause::OutOfTurn(p) => Told::Place(p),
+        Cause::EndMissing(p) => Told::Place(p),
+        Cause::WrongCount(p) => Told::Place(p),
+        Cause::Extra(p) => Told::Place(p),
+    }
 }
 
 // One byte as a wider number.
@@ -131,33 +177,51 @@ fn block_by_kind(s: &[u8], at: usize, size: usize) -> Block
 {
     let kind_at = at + 4;
     let kind = pair(s, kind_at);
-    let body = at + 6;
+    if !right_size(kind, size) {
+        return Block::Broken(Cause::WrongSize(at));
+    }
     if kind == 1 {
-        if size != 8 {
-            return Block::Broken(Cause::WrongSize(at));
-        }
-        let unit = word(s, body);
-        let number_at = at + 10;
-        let number = word(s, number_at);
-        return Block::Head(unit, number);
+        return Block::Head(heading_at(s, at));
     }
     if kind == 2 {
-        if size == 0 {
-            return Block::Broken(Cause::WrongSize(at));
-        }
-        if size % 18 != 0 {
-            return Block::Broken(Cause::WrongSize(at));
-        }
         return Block::Voice(size);
     }
     if kind == 3 {
-        if size != 4 {
-            return Block::Broken(Cause::WrongSize(at));
-        }
-        let told = word(s, body);
-        return Block::End(told);
+        let body = at + 6;
+        return Block::End(word(s, body));
     }
     Block::Broken(Cause::UnknownKind(at))
+}
+
+// What the head at a place holds.
+fn heading_at(s: &[u8], at: usize) -> Heading
+    requires { ⌜ at + 6 + 8 ≤ length (now s) ⌝ }
+    ensures { λ r. ⌜ r ≡ headingAt (now (s .entry)) at ⌝ }
+{
+    let unit_at = at + 6;
+    let unit = word(s, unit_at);
+    let number_at = at + 10;
+    let number = word(s, number_at);
+    Heading { unit, number }
+}
+
+// Whether a payload's size is right for its kind; a kind that is unknown has no wrong size.
+fn right_size(kind: u32, size: usize) -> bool
+    ensures { λ r. ⌜ r ≡ rightSize kind size ⌝ }
+{
+    if kind == 1 {
+        return size == 8;
+    }
+    if kind == 2 {
+        if size == 0 {
+            return false;
+        }
+        return size % 18 == 0;
+    }
+    if kind == 3 {
+        return size == 4;
+    }
+    true
 }
 
 // One step of a walk.
@@ -167,81 +231,117 @@ fn advance(s: &[u8], w: Walk) -> Moved
     ensures { λ r. ⌜ r ≡ stepOf (now (s .entry)) w ⌝ }
 {
     let at = w.at;
+    let frames = w.frames;
     match block_at(s, at) {
-        Block::Broken(cause) => Moved::Done(Walked::Refused(cause)),
-        Block::Head(unit, number) => {
-            if w.headed {
-                return Moved::Done(Walked::Refused(Cause::OutOfTurn(at)));
-            }
-            let next = at + 14;
-            Moved::On(Walk {
-                at: next,
-                headed: true,
-                unit,
-                number,
-                frames: w.frames,
-            })
-        }
-        Block::Voice(size) => {
-            if w.headed {
-                let next = at + 6 + size;
-                let more = (size / 18) as u32;
-                let frames = w.frames + more;
-                return Moved::On(Walk {
-                    at: next,
-                    headed: w.headed,
-                    unit: w.unit,
-                    number: w.number,
-                    frames,
-                });
-            }
-            Moved::Done(Walked::Refused(Cause::OutOfTurn(at)))
-        }
-        Block::End(told) => Moved::Done(end_walk(s, w, told)),
+        Block::Head(heading) => meet_head(w, heading),
+        Block::Voice(size) => meet_voice(w, size),
+        Block::End(told) => meet_end(s.len(), at, frames, told),
+        Block::Broken(cause) => refuse(cause),
     }
 }
 
-// What a walk comes to at an end block that tells a number of frames.
-fn end_walk(s: &[u8], w: Walk, told: u32) -> Walked
-    requires { ⌜ blockAt (now s) (w .at) ≡ End told ⌝ }
-    ensures { λ r. ⌜ Done r ≡ stepOf (now (s .entry)) w ⌝ }
+// A step to a refusal.
+fn refuse(cause: Cause) -> Moved
+    ensures { λ r. ⌜ r ≡ refuse cause ⌝ }
+{
+    Moved::Done(Ending::Refused(cause))
+}
+
+// A walk that comes to a head: past it, where none was passed before.
+fn meet_head(w: Walk, heading: Heading) -> Moved
+    requires { ⌜ w .at + 6 + 8 ≤ longest ⌝ }
+    ensures { λ r. ⌜ r ≡ atHead w heading ⌝ }
 {
     let at = w.at;
-    if w.frames == 0 {
-        return Walked::Refused(Cause::OutOfTurn(at));
+    if w.headed {
+        return refuse(Cause::OutOfTurn(at));
     }
-    if told != w.frames {
-        return Walked::Refused(Cause::WrongCount(at));
-    }
-    let after = at + 10;
-    if s.len() != after {
-        return Walked::Refused(Cause::Extra(after));
-    }
-    Walked::Whole(Heading {
-        unit: w.unit,
-        number: w.number,
+    let next = at + 6 + 8;
+    Moved::On(Walk {
+        at: next,
+        headed: true,
+        heading,
+        voices: next,
         frames: w.frames,
     })
 }
 
-// Walks through the blocks of any bytes: what a recording's head tells and its number of frames, or the refusal.
+// A walk that comes to a voice block: past it and its frames, where the head was passed before.
+fn meet_voice(w: Walk, size: usize) -> Moved
+    requires { ⌜ w .at + 6 + size ≤ longest ⌝ }
+    requires { ⌜ 18 * w .frames ≤ w .at ⌝ }
+    ensures { λ r. ⌜ r ≡ atVoice w size ⌝ }
+{
+    let at = w.at;
+    if w.headed {
+        let next = at + 6 + size;
+        let more = (size / 18) as u32;
+        let frames = w.frames + more;
+        let mut further = w;
+        further.at = next;
+        further.frames = frames;
+        return Moved::On(further);
+    }
+    refuse(Cause::OutOfTurn(at))
+}
+
+// A walk past so many frames that comes to an end block that tells a number of frames, in so many bytes in all.
+fn meet_end(long: usize, at: usize, frames: u32, told: u32) -> Moved
+    requires { ⌜ at + 6 + 4 ≤ longest ⌝ }
+    ensures { λ r. ⌜ r ≡ Done (endingAt long at frames told) ⌝ }
+{
+    Moved::Done(ending_at(long, at, frames, told))
+}
+
+// How it ends there.
+fn ending_at(long: usize, at: usize, frames: u32, told: u32) -> Ending
+    requires { ⌜ at + 6 + 4 ≤ longest ⌝ }
+    ensures { λ r. ⌜ r ≡ endingAt long at frames told ⌝ }
+{
+    if frames == 0 {
+        return Ending::Refused(Cause::OutOfTurn(at));
+    }
+    if told != frames {
+        return Ending::Refused(Cause::WrongCount(at));
+    }
+    let after = at + 6 + 4;
+    if long != after {
+        return Ending::Refused(Cause::Extra(after));
+    }
+    Ending::Sound
+}
+
+// Walks through the blocks of any bytes: what was passed, and whether the recording is sound or why it is refused.
 pub fn walk_through(s: &[u8]) -> Walked
     ensures { λ r. ⌜ r ≡ walkedOf (now (s .entry)) ⌝ }
 {
-    if 65536 < s.len() {
-        return Walked::Refused(Cause::TooLong);
-    }
-    let mut w = Walk {
+    let walk = Walk {
         at: 0,
         headed: false,
-        unit: 0,
-        number: 0,
+        heading: Heading { unit: 0, number: 0 },
+        voices: 0,
         frames: 0,
     };
+    if 65536 < s.len() {
+        return Walked {
+            walk,
+            ending: Ending::Refused(Cause::TooLong),
+        };
+    }
+    walk_from(s, walk)
+}
+
+// The same from any block on, step by step to the end.
+fn walk_from(s: &[u8], start: Walk) -> Walked
+    requires { ⌜ length (now s) ≤ longest ⌝ }
+    requires { ⌜ 18 * start .frames ≤ start .at ⌝ }
+    ensures { λ r. ⌜ r ≡ walkFrom (now (s .entry)) start ⌝ }
+{
+    let mut walk = start;
     loop {
-        match advance(s, w) {
-            Moved::On(next) => w = next,
-            Moved::Done(answer) => return answer,
+        match advance(s, walk) {
+            Moved::On(next) => walk = next,
+            Moved::Done(ending) => return Walked { walk, ending },
         }
     }
 }
@@ -249,6 +349,7 @@ pub fn walk_through(s: &[u8]) -> Walked
 // The payload of the k-th voice block, counted from 0, as that part of the bytes; the empty part where there is none.
 pub fn voice_block(s: &[u8], k: usize) -> &[u8]
     ensures { λ r. ⌜ now r ≡ voiceBlockOf (now (s .entry)) k ⌝ }
+    ensures { λ r. ⌜ ptr r ≡ bytesOn (ptr (s .entry)) (spanOf (now (s .entry)) k .from) ⌝ }
 {
     let span = voice_span(s, k);
     let from = span.from;
@@ -256,21 +357,26 @@ pub fn voice_block(s: &[u8], k: usize) -> &[u8]
     &s[from..to]
 }
 
-// Where the payload of the k-th voice block stands; nowhere in a refused recording.
-fn voice_span(s: &[u8], k: usize) -> Span
-    ensures { λ r. ⌜ Spans (now (s .entry)) (voiceBlockOf (now (s .entry)) k) r ⌝ }
+// Where the payload of the k-th voice block stands; from 0 to 0 where there is none.
+pub fn voice_span(s: &[u8], k: usize) -> Span
+    ensures { λ r. ⌜ r ≡ spanOf (now (s .entry)) k ⌝ }
 {
-    match walk_through(s) {
-        Walked::Refused(_) => Span { from: 0, to: 0 },
-        Walked::Whole(_) => span_after_head(s, k),
+    let walked = walk_through(s);
+    let ending = walked.ending;
+    match ending {
+        Ending::Refused(_) => Span { from: 0, to: 0 },
+        Ending::Sound => {
+            let voices = walked.walk.voices;
+            span_from(s, voices, k)
+        }
     }
 }
 
-// The same of the voice blocks that follow the first fourteen bytes.
-fn span_after_head(s: &[u8], k: usize) -> Span
-    ensures { λ r. ⌜ Spans (now (s .entry)) (getD (voicesFrom (now (s .entry)) afterHead) k []) r ⌝ }
+// The same of the voice blocks from a place on.
+fn span_from(s: &[u8], voices: usize, k: usize) -> Span
+    ensures { λ r. ⌜ r ≡ getD (spansFrom (now (s .entry)) voices) k nowhere ⌝ }
 {
-    let mut at = 14;
+    let mut at = voices;
     let mut before = k;
     loop {
         let size = voice_size(s, at);
@@ -292,7 +398,7 @@ fn voice_size(s: &[u8], at: usize) -> usize
     ensures { λ r. ⌜ r ≡ voiceSize (now (s .entry)) at ⌝ }
 {
     match block_at(s, at) {
-        Block::Head(_, _) => 0,
+        Block::Head(_) => 0,
         Block::Voice(size) => size,
         Block::End(_) => 0,
         Block::Broken(_) => 0,

@@ -19,7 +19,7 @@ use Rattle.frame.specs.declared.Written.the-variants as Written
 
 -- the order mark of a record
 unfoldable pub recordMark : Record → ℕ
-recordMark r = markOf (hertzOf (r .lsp))
+recordMark r = markOf (hertzOf (r .lsp) .hz)
 
 -- a record of nothing but 0
 abbrev pub noRecord : Record
@@ -40,6 +40,10 @@ unfoldable pub readingOf : List ℕ → Reading
 readingOf s =
     cond (eqb (length s) 18) (readIn (bitAt s))
     (record { verdict = Verdict.WrongLength; indices = noRecord; number = 0; mark = 0 })
+
+-- the correction number of a reading; 0 where the frame was refused
+abbrev pub correctionNumber : Reading → ℕ
+correctionNumber r = r .number
 
 -- what a record to write gets, given the length of the lent buffer: lowest refusal number first
 unfoldable pub writtenOf : Record → ℕ → Written

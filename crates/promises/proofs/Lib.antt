@@ -5,7 +5,6 @@ pub mod Refused
 pub mod Values
 pub mod Repairs
 pub mod Boundary
-pub mod Whole
 pub mod Rule
 pub mod Parts
 pub mod Running

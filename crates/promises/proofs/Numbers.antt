@@ -27,20 +27,19 @@ use Rattle.values.specs.declared.Outcome.{Outcome}
 use Rattle.values.specs.declared.Outcome.the-variants.{Heard, TooLarge, Expansion}
 use Rattle.values.specs.declared.State.{State}
 use Rattle.blocks.specs.Walk.{walkedOf}
-use Rattle.blocks.specs.Frames.{framesOf}
-use Rattle.blocks.specs.Refusals.{refusalOf, tellsOf, walkedRefusal, walkedTells}
+use Rattle.blocks.specs.Refusals.{refusalOf, tellsOf, endingRefusal, endingTells, walkedRefusal, walkedTells}
 use Rattle.blocks.specs.declared.Cause.{Cause}
 use Rattle.blocks.specs.declared.Cause.the-variants.{TooLong, HeaderCut, PastEnd, WrongSize, UnknownKind, OutOfTurn, EndMissing, WrongCount, Extra}
-use Rattle.blocks.specs.declared.Walked.{Walked}
-use Rattle.blocks.specs.declared.Walked.the-variants as Walked
-use Rattle.recording.specs.Judged.{judgedOf, judgedBy, judgedRefusal, judgedTells}
+use Rattle.blocks.specs.declared.Ending.{Ending}
+use Rattle.blocks.specs.declared.Ending.the-variants as Ending
+use Rattle.recording.specs.Judged.{judgedOf, judgedRefusal, judgedTells}
 use Rattle.recording.specs.declared.Judged.{Judged}
 use Rattle.recording.specs.declared.Judged.the-variants as Judged
 use Rattle.promises.specs.Refused.{WriterGives, WriterRefuses, HearingGives, HearingRefuses, CodingGives, DelaysRefuse, CodeGives, CodeRefuses}
 use Rattle.promises.specs.Rule.{Given}
 use Rattle.promises.specs.Numbers.{WriterTable, write-length, write-index, write-fall, write-expansion, write-frame, WriterNumbers, HearingTable, hear-index, hear-expansion, hear-values, HearingNumbers, DelayTable, delay-unlisted, delay-outside, delay-codes, DelayNumbers, CodeTable, code-length, code-index, code-elements, CodeNumbers, GainTable, gain-index, gain-entry, GainNumbers, RecordingTable, too-long, header-cut, past-end, wrong-size, unknown-kind, out-of-turn, end-missing, wrong-count, extra, sound, RecordingNumbers}
 use Rattle.promises.proofs.Refused.{writer-refuses, hearing-refuses, delays-refuse, code-refuses}
-use Rattle.promises.proofs.Rule.{refused-exactly, sound-exactly}
+use Rattle.promises.proofs.Rule.{refused-exactly, sound-exactly, walked-judged}
 
 -- a row at a number and what is told, from the row at those of the answer
 at-row : (row : ℕ → List ℕ → Type 0) {m k : ℕ} {u t : List ℕ} → row m u → (m ≡ k) × (u ≡ t) → row k t
@@ -194,12 +193,18 @@ module _ (s : List ℕ) where
 
   -- judging refuses as walking through does
   same-refusal : (judgedRefusal (judgedOf s) ≡ walkedRefusal (walkedOf s)) × (judgedTells (judgedOf s) ≡ walkedTells (walkedOf s))
-  unfolding judgedOf
-  same-refusal = go (walkedOf s)
+  same-refusal = go (walkedOf s .ending) refl
     where
-      go : (w : Walked) → (judgedRefusal (judgedBy w (framesOf s)) ≡ walkedRefusal w) × (judgedTells (judgedBy w (framesOf s)) ≡ walkedTells w)
-      go (Walked.Whole h) = (refl, refl)
-      go (Walked.Refused c) = (refl, refl)
+      go : (x : Ending) → walkedOf s .ending ≡ x
+          → (judgedRefusal (judgedOf s) ≡ walkedRefusal (walkedOf s)) × (judgedTells (judgedOf s) ≡ walkedTells (walkedOf s))
+      go Ending.Sound e = (
+        ap judgedRefusal (walked-judged s Ending.Sound e) ∙ sym (ap endingRefusal e),
+        ap judgedTells (walked-judged s Ending.Sound e) ∙ sym (ap endingTells e),
+      )
+      go (Ending.Refused c) e = (
+        ap judgedRefusal (walked-judged s (Ending.Refused c) e) ∙ sym (ap endingRefusal e),
+        ap judgedTells (walked-judged s (Ending.Refused c) e) ∙ sym (ap endingTells e),
+      )
 
 pub recording-numbers : RecordingNumbers
 unfolding RecordingNumbers

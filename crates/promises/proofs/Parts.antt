@@ -1,149 +1,162 @@
 -- Where the voice blocks of a recording stand, that their frames are all its frames, and what its counts are sums of.
 -- Assumes nothing.
 use mathlib.Core.Path.{_≡_, _∙_, sym, refl, ap, ap₂, subst}
-use mathlib.Core.List.{List, [], _∷_, _++_}
-use Prim.Native.Nat.{ℕ, zero, suc, _+_, _*_, _/_, _%_, _<_, _≤_}
+use mathlib.Core.List.{List, [], _∷_, _++_, map}
+use Prim.Native.Nat.{ℕ, zero, suc, _+_, _-_, _*_, _/_, _%_, _<_, _≤_}
 use native.Mathlib.Omega.{arith}
 use native.Mathlib.Nat.{suc-add, zero-add}
 use native.Mathlib.Decide.{ℕ-discrete}
-use lib.ListN.{length, getD, take, drop, length-append, length-drop}
+use lib.ListN.{length, getD, take, drop, length-append, length-drop, length-map, List·getD-eq-default}
 use lib.Seq.{length-take-le, take-append-le, drop-append-le}
-use Rattle.laws.proofs.Total.{total-cong}
-use Rattle.laws.proofs.Front.{counted}
-use Rattle.frame.specs.Answers.{readingOf}
 use Rattle.laws.specs.Turns.{turns}
 use Rattle.blocks.specs.Blocks.{blockAt, part}
-use Rattle.blocks.specs.Walk.{stepOf, walkFrom, walkedOf}
-use Rattle.blocks.specs.Frames.{voiceSize, voicesFrom, afterHead, ifWhole, payloadsOf, voiceBlockOf, cut, eighteens, framesIn, framesOf}
-use Rattle.recording.specs.Judged.{repairBy, repairedIn, breakBy, breaksFrom, judgedBy, judgedOf}
-use Rattle.promises.specs.Parts.{blocksLong, payloadPlace, Stands, VoiceBlocksStand, joined, FramesAreAll, FramesAreLong, FramesFit, RefusedHasNone, EmptyRefused, EndCounts, frameAt, RepairsCounted, BreaksCounted}
+use Rattle.blocks.specs.Walk.{afterHead, stepOf, walkFrom, walkedOf}
+use Rattle.blocks.specs.Frames.{voiceSize, spanAt, spansFrom, spansOf, nowhere, spanOf, bytesAt, voicesFrom, payloadsOf, voiceBlockOf}
+use Rattle.blocks.specs.Frames.{cut, eighteens, framesIn, framesOf}
+use Rattle.blocks.specs.Made.{voiceBlocks}
+use Rattle.recording.specs.Counted.{countsTo, countsOf}
+use Rattle.recording.specs.Judged.{summaryOf, judgedOf}
+use Rattle.promises.specs.Parts.{payloadPlace, Stands, VoiceBlocksStand, NoSuchBlock, joined, FramesAreAll, FramesAreLong}
+use Rattle.promises.specs.Parts.{FramesFit, RefusedHasNone, EmptyRefused, EndCounts, RepairsCounted, BreaksCounted}
 use Rattle.blocks.specs.declared.Cause.{Cause}
-use Rattle.blocks.specs.declared.Heading.{Heading}
-use Rattle.blocks.specs.declared.Walked.{Walked}
-use Rattle.blocks.specs.declared.Walked.the-variants.{Whole, Refused}
+use Rattle.blocks.specs.declared.Span.{Span}
+use Rattle.blocks.specs.declared.Ending.{Ending}
+use Rattle.blocks.specs.declared.Ending.the-variants.{Sound, Refused}
 use Rattle.recording.specs.declared.Summary.{Summary}
 use Rattle.recording.specs.declared.Judged.the-variants as Judged
-use Rattle.blocks.proofs.Voices.{Sized, voice-sized, voices-none, voices-more, block-refused}
-use Rattle.blocks.proofs.Walks.{whole-short}
+use Rattle.blocks.proofs.Voices.{voice-sized, spans-none, spans-more, voices-none, voices-more, spans-sound}
+use Rattle.blocks.proofs.Voices.{payloads-refused, block-payload}
 use Rattle.blocks.proofs.Frames.{frames-refused}
-use Rattle.recording.proofs.Counting.{repaired-more, breaks-more}
-use Rattle.promises.proofs.Whole.{whole-opened, laid-more, laid-none, length-cut, frames-in-more, frames-in-none}
+use Rattle.blocks.proofs.Passed.{length-cut, frames-in-none, frames-in-more, blocks-none, blocks-more, sound-whole}
+use Rattle.blocks.proofs.Made.{payload-sized}
+use Rattle.promises.proofs.Rule.{judged-refused, judged-sound}
 
--- ---- the voice blocks of a recording that is not refused, and of one that is
+-- ---- where the voice blocks stand
 
-pub payloads-whole : (s : List ℕ) (h : Heading) → walkedOf s ≡ Whole h → payloadsOf s ≡ voicesFrom s afterHead
-unfolding payloadsOf
-payloads-whole s h e = ap (λ (w : Walked). ifWhole w (voicesFrom s afterHead) []) e
-
-pub payloads-refused : (s : List ℕ) (cause : Cause) → walkedOf s ≡ Refused cause → payloadsOf s ≡ []
-unfolding payloadsOf
-payloads-refused s cause e = ap (λ (w : Walked). ifWhole w (voicesFrom s afterHead) []) e
-
--- ---- where they stand
-
--- the k-th of these payloads is a part of the bytes, of whole frames, counted from a place on
-record Laid (s : List ℕ) (at : ℕ) (ps : List (List ℕ)) (k : ℕ) : Type 0 where
-  holds : getD ps k [] ≡ part s (at + blocksLong (take k ps) + 6) (length (getD ps k []))
-  positive : 0 < length (getD ps k [])
-  whole : length (getD ps k []) % 18 ≡ 0
-
-module _ (s : List ℕ) (at size : ℕ) (t : Sized s at size) (ps : List (List ℕ)) where
-  long : length (part s (at + 6) size) ≡ size
-  long = length-take-le size (drop (at + 6) s) (simp length-drop (omega (arith, t .fits)))
-
-  laid-first : Laid s at (part s (at + 6) size ∷ ps) 0
-  laid-first =
-      let a : at + 6 ≡ at + blocksLong [] + 6 = omega (arith, laid-none) in
-      record {
-        holds = ap₂ (part s) a (sym long);
-        positive = omega (arith, long, t .least);
-        whole = ap (λ (n : ℕ). n % 18) long ∙ t .whole;
-      }
-
-  laid-later : (k : ℕ) → Laid s (at + 6 + size) ps k → Laid s at (part s (at + 6) size ∷ ps) (suc k)
-  laid-later k q =
-      let a : at + 6 + size + blocksLong (take k ps) + 6 ≡ at + blocksLong (part s (at + 6) size ∷ take k ps) + 6
-      = omega (arith, laid-more (part s (at + 6) size) (take k ps), long) in
-      record {
-        holds = q .holds ∙ ap (λ (n : ℕ). part s n (length (getD ps k []))) a;
-        positive = q .positive;
-        whole = q .whole;
-      }
-
-voices-laid : (s : List ℕ) (k at : ℕ) → k < length (voicesFrom s at) → Laid s at (voicesFrom s at) k
-voices-laid s zero at l = go (voiceSize s at) refl (ℕ-discrete (voiceSize s at) 0)
-  where
-    go : (size : ℕ) → size ≡ voiceSize s at → Dec (size ≡ 0) → Laid s at (voicesFrom s at) 0
-    go size e (yes z) = absurd (let n = ap length (voices-none s at size e z) in omega (arith, n))
-    go size e (no z) =
-        subst (λ (x : List (List ℕ)). Laid s at x 0) (sym (voices-more s at size e z))
-        (laid-first s at size (voice-sized s at size e z) (voicesFrom s (at + 6 + size)))
-voices-laid s (suc k) at l = go (voiceSize s at) refl (ℕ-discrete (voiceSize s at) 0) (λ next m. voices-laid s k next m)
-  where
-    go : (size : ℕ) → size ≡ voiceSize s at → Dec (size ≡ 0) → ((next : ℕ) → k < length (voicesFrom s next) → Laid s next (voicesFrom s next) k)
-        → Laid s at (voicesFrom s at) (suc k)
-    go size e (yes z) further = absurd (let n = ap length (voices-none s at size e z) in omega (arith, n))
-    go size e (no z) further =
-        let n = ap length (voices-more s at size e z) in
-        subst (λ (x : List (List ℕ)). Laid s at x (suc k)) (sym (voices-more s at size e z))
-        (laid-later s at size (voice-sized s at size e z) (voicesFrom s (at + 6 + size)) k (further (at + 6 + size) (omega (arith, n))))
-
--- the blocks before the next one are those before this one, and this one; all of them are at least those
-laid-next : (ps : List (List ℕ)) (k : ℕ) → k < length ps → blocksLong (take (suc k) ps) ≡ blocksLong (take k ps) + 6 + length (getD ps k [])
-laid-next [] k l = absurd (omega arith)
-laid-next (p ∷ ps) zero l = let a = laid-more p [] in let b = laid-none in omega (arith, a, b)
-laid-next (p ∷ ps) (suc k) l =
-    let r = laid-next ps k (omega arith) in
-    let a = laid-more p (take (suc k) ps) in
-    let b = laid-more p (take k ps) in
-    omega (arith, r, a, b)
-
-laid-most : (ps : List (List ℕ)) (k : ℕ) → blocksLong (take k ps) ≤ blocksLong ps
-laid-most ps zero = let a = laid-none in omega (arith, a)
-laid-most [] (suc k) = omega arith
-laid-most (p ∷ ps) (suc k) =
-    let r = laid-most ps k in
-    let a = laid-more p (take k ps) in
-    let b = laid-more p ps in
-    omega (arith, r, a, b)
-
-record StandsIn (s : List ℕ) (ps : List (List ℕ)) (k : ℕ) : Type 0 where
-  holds : getD ps k [] ≡ part s (payloadPlace ps k) (length (getD ps k []))
-  positive : 0 < length (getD ps k [])
-  whole : length (getD ps k []) % 18 ≡ 0
-  apart : payloadPlace ps k + length (getD ps k []) + 6 ≡ payloadPlace ps (suc k)
-  within : payloadPlace ps k + length (getD ps k []) + 10 ≤ length s
-
-stands-in : (s : List ℕ) (k : ℕ) (h : Heading) → walkedOf s ≡ Whole h → k < length (voicesFrom s afterHead) → StandsIn s (voicesFrom s afterHead) k
-stands-in s k h e l =
-    let q = voices-laid s k afterHead l in
-    let r = whole-opened s h (whole-short s h e) e .rest in
-    let n = laid-next (voicesFrom s afterHead) k l in
-    let m = laid-most (voicesFrom s afterHead) (suc k) in
+-- the part that the k-th of these payloads is, counted from a place on
+abbrev spanFor : ℕ → List (List ℕ) → ℕ → Span
+spanFor at ps k =
     record {
-      holds = q .holds;
-      positive = q .positive;
-      whole = q .whole;
-      apart = omega (arith, n);
-      within = omega (arith, r .last, r .from, n, m);
+      from = at + length (voiceBlocks (take k ps)) + 6;
+      to = at + length (voiceBlocks (take k ps)) + 6 + length (getD ps k []);
     }
 
-stands-as : (s : List ℕ) (k : ℕ) → StandsIn s (payloadsOf s) k → Stands s k
-unfolding voiceBlockOf
-stands-as s k q = record { holds = q .holds; positive = q .positive; whole = q .whole; apart = q .apart; within = q .within }
+same-span : (a b c d : ℕ) → a ≡ c → b ≡ d → _≡_ {A = Span} (record { from = a; to = b }) (record { from = c; to = d })
+same-span a b c d p q i = record { from = p i; to = q i }
+
+voices-stand : (s : List ℕ) (k at : ℕ) → k < length (voicesFrom s at)
+    → getD (spansFrom s at) k nowhere ≡ spanFor at (voicesFrom s at) k
+voices-stand s zero at l = go (voiceSize s at) refl (ℕ-discrete (voiceSize s at) 0)
+  where
+    go : (size : ℕ) → size ≡ voiceSize s at → Dec (size ≡ 0) → getD (spansFrom s at) 0 nowhere ≡ spanFor at (voicesFrom s at) 0
+    go size e (yes z) = absurd (let n = ap length (voices-none s at size e z) in omega (arith, n))
+    go size e (no z) =
+        let t = voice-sized s at size e z in
+        let n : length (part s (at + 6) size) ≡ size
+        = length-take-le size (drop (at + 6) s) (simp length-drop (omega (arith, t .fits))) in
+        let b = blocks-none in
+        ap (λ (x : List Span). getD x 0 nowhere) (spans-more s at size e z)
+        ∙ same-span (at + 6) (at + 6 + size) (at + length (voiceBlocks []) + 6)
+        (at + length (voiceBlocks []) + 6 + length (part s (at + 6) size)) (omega (arith, b)) (omega (arith, b, n))
+        ∙ ap (λ (x : List (List ℕ)). spanFor at x 0) (sym (voices-more s at size e z))
+voices-stand s (suc k) at l = go (voiceSize s at) refl (ℕ-discrete (voiceSize s at) 0) (λ next m. voices-stand s k next m)
+  where
+    go : (size : ℕ) → size ≡ voiceSize s at → Dec (size ≡ 0)
+        → ((next : ℕ) → k < length (voicesFrom s next) → getD (spansFrom s next) k nowhere ≡ spanFor next (voicesFrom s next) k)
+        → getD (spansFrom s at) (suc k) nowhere ≡ spanFor at (voicesFrom s at) (suc k)
+    go size e (yes z) further = absurd (let n = ap length (voices-none s at size e z) in omega (arith, n))
+    go size e (no z) further =
+        let t = voice-sized s at size e z in
+        let n : length (part s (at + 6) size) ≡ size
+        = length-take-le size (drop (at + 6) s) (simp length-drop (omega (arith, t .fits))) in
+        let m = ap length (voices-more s at size e z) in
+        let b = blocks-more (part s (at + 6) size) (take k (voicesFrom s (at + 6 + size))) in
+        ap (λ (x : List Span). getD x (suc k) nowhere) (spans-more s at size e z)
+        ∙ further (at + 6 + size) (omega (arith, m))
+        ∙ same-span (at + 6 + size + length (voiceBlocks (take k (voicesFrom s (at + 6 + size)))) + 6)
+        (at + 6 + size + length (voiceBlocks (take k (voicesFrom s (at + 6 + size)))) + 6
+        + length (getD (voicesFrom s (at + 6 + size)) k []))
+        (at + length (voiceBlocks (part s (at + 6) size ∷ take k (voicesFrom s (at + 6 + size)))) + 6)
+        (at + length (voiceBlocks (part s (at + 6) size ∷ take k (voicesFrom s (at + 6 + size)))) + 6
+        + length (getD (voicesFrom s (at + 6 + size)) k [])) (omega (arith, b, n)) (omega (arith, b, n))
+        ∙ ap (λ (x : List (List ℕ)). spanFor at x (suc k)) (sym (voices-more s at size e z))
+
+-- the blocks before the next one are those before this one, and this one; all of them are at least those
+blocks-next : (ps : List (List ℕ)) (k : ℕ) → k < length ps
+    → length (voiceBlocks (take (suc k) ps)) ≡ length (voiceBlocks (take k ps)) + 6 + length (getD ps k [])
+blocks-next [] k l = absurd (omega arith)
+blocks-next (p ∷ ps) zero l = let a = blocks-more p [] in let b = blocks-none in omega (arith, a, b)
+blocks-next (p ∷ ps) (suc k) l =
+    let r = blocks-next ps k (omega arith) in
+    let a = blocks-more p (take (suc k) ps) in
+    let b = blocks-more p (take k ps) in
+    omega (arith, r, a, b)
+
+blocks-most : (ps : List (List ℕ)) (k : ℕ) → length (voiceBlocks (take k ps)) ≤ length (voiceBlocks ps)
+blocks-most ps zero = let a = blocks-none in omega (arith, a)
+blocks-most [] (suc k) = omega arith
+blocks-most (p ∷ ps) (suc k) =
+    let r = blocks-most ps k in
+    let a = blocks-more p (take k ps) in
+    let b = blocks-more p ps in
+    omega (arith, r, a, b)
+
+-- in a sound recording
+module _ (s : List ℕ) (e : walkedOf s .ending ≡ Sound) (k : ℕ) (l : k < length (payloadsOf s)) where
+  in-voices : k < length (voicesFrom s (afterHead 0))
+  in-voices = subst (λ (x : List (List ℕ)). k < length x) (sound-whole s e .voices) l
+
+  stands-there : spanOf s k ≡ spanFor (afterHead 0) (payloadsOf s) k
+  unfolding spanOf
+  stands-there =
+      let o = sound-whole s e in
+      ap (λ (x : List Span). getD x k nowhere) (spans-sound s e)
+      ∙ ap (λ (n : ℕ). getD (spansFrom s n) k nowhere) (o .behind .voices)
+      ∙ voices-stand s k (afterHead 0) in-voices
+      ∙ ap (λ (x : List (List ℕ)). spanFor (afterHead 0) x k) (sym (o .voices))
+
+  sized-there : (0 < length (getD (payloadsOf s) k [])) × (length (getD (payloadsOf s) k []) % 18 ≡ 0)
+  sized-there =
+      subst (λ (x : List (List ℕ)). (0 < length (getD x k [])) × (length (getD x k []) % 18 ≡ 0)) (sym (sound-whole s e .voices))
+      (payload-sized s k (afterHead 0) in-voices)
+
+  stands : Stands s k
+  unfolding voiceBlockOf
+  stands =
+      let o = sound-whole s e in
+      let n : length (voiceBlockOf s k) ≡ length (getD (payloadsOf s) k []) = ap length (block-payload s k) in
+      let a = blocks-next (payloadsOf s) k l in
+      let m = blocks-most (payloadsOf s) (suc k) in
+      let f = ap (λ (r : Span). r .from) stands-there in
+      let t = ap (λ (r : Span). r .to) stands-there in
+      let d : spanOf s k .to - spanOf s k .from ≡ length (voiceBlockOf s k) = omega (arith, f, t, n) in
+      record {
+        from = f;
+        to = omega (arith, t, n);
+        holds = ap₂ (part s) f d;
+        positive = omega (arith, n, sized-there .0);
+        whole = ap (λ (x : ℕ). x % 18) n ∙ sized-there .1;
+        apart = omega (arith, a, n);
+        within = omega (arith, a, n, m, o .ended .last, o .behind .at);
+      }
 
 pub voice-blocks-stand : VoiceBlocksStand
-voice-blocks-stand s k l = go (walkedOf s) refl
+voice-blocks-stand s k l = go (walkedOf s .ending) refl
   where
-    go : (w : Walked) → walkedOf s ≡ w → Stands s k
-    go (Whole h) e =
-        let p = payloads-whole s h e in
-        stands-as s k
-        (subst (λ (x : List (List ℕ)). StandsIn s x k) (sym p) (stands-in s k h e (subst (λ (x : List (List ℕ)). k < length x) p l)))
+    go : (x : Ending) → walkedOf s .ending ≡ x → Stands s k
+    go Sound e = stands s e k l
     go (Refused cause) e = absurd (let n = ap length (payloads-refused s cause e) in omega (arith, n))
+
+pub no-such-block : NoSuchBlock
+unfolding spanOf voiceBlockOf payloadsOf
+no-such-block s k l =
+    let n = length-map (spansOf s) (bytesAt s) in
+    let e : getD (spansOf s) k nowhere ≡ nowhere = List·getD-eq-default (spansOf s) nowhere (omega (arith, n)) in
+    (e, ap (bytesAt s) e)
 
 -- ---- the frames are all the frames
 
+-- a payload of whole frames and what follows it are cut one after the other
 cut-append : (m n : ℕ) (p q : List ℕ) → length p ≡ 18 * m → cut (m + n) (p ++ q) ≡ cut m p ++ cut n q
 unfolding cut
 cut-append zero n [] q l = ap (λ (k : ℕ). cut k q) (zero-add n)
@@ -166,9 +179,12 @@ frames-joined (p ∷ ps) w =
     ∙ ap (λ (k : ℕ). cut k (p ++ joined ps)) (sym n)
 
 pub frames-are-all : FramesAreAll
-unfolding framesOf voiceBlockOf
-frames-are-all s = frames-joined (payloadsOf s) (λ k l. voice-blocks-stand s k l .whole)
+unfolding framesOf
+frames-are-all s =
+    frames-joined (payloadsOf s)
+    (λ k l. ap (λ (x : List ℕ). length x % 18) (sym (block-payload s k)) ∙ voice-blocks-stand s k l .whole)
 
+-- each frame that is cut is eighteen bytes
 cut-long : (n : ℕ) (p : List ℕ) (k : ℕ) → 18 * n ≤ length p → k < n → length (getD (cut n p) k []) ≡ 18
 unfolding cut
 cut-long zero p k h l = absurd (omega arith)
@@ -184,109 +200,49 @@ frames-are-long s k l =
     ∙ cut-long (length (joined (payloadsOf s)) / 18) (joined (payloadsOf s)) k (omega arith) (omega (arith, n))
 
 -- whole frames take no more bytes than their blocks
-laid-frames : (ps : List (List ℕ)) → 18 * length (framesIn ps) ≤ blocksLong ps
-laid-frames [] = let a = frames-in-none in omega (arith, a)
-laid-frames (p ∷ ps) =
-    let r = laid-frames ps in
+blocks-frames : (ps : List (List ℕ)) → 18 * length (framesIn ps) ≤ length (voiceBlocks ps)
+blocks-frames [] = let a = frames-in-none in omega (arith, a)
+blocks-frames (p ∷ ps) =
+    let r = blocks-frames ps in
     let a = frames-in-more p ps in
-    let b = laid-more p ps in
+    let b = blocks-more p ps in
     omega (arith, r, a, b)
 
 pub frames-fit : FramesFit
 unfolding framesOf
-frames-fit s = go (walkedOf s) refl
+frames-fit s = go (walkedOf s .ending) refl
   where
-    go : (w : Walked) → walkedOf s ≡ w → 18 * length (framesIn (payloadsOf s)) ≤ length s
-    go (Whole h) e =
-        let r = whole-opened s h (whole-short s h e) e .rest in
-        let a = laid-frames (voicesFrom s afterHead) in
-        let b = ap (λ (x : List (List ℕ)). length (framesIn x)) (payloads-whole s h e) in
-        omega (arith, a, b, r .last, r .from)
+    go : (x : Ending) → walkedOf s .ending ≡ x → 18 * length (framesIn (payloadsOf s)) ≤ length s
+    go Sound e =
+        let o = sound-whole s e in
+        let a = blocks-frames (payloadsOf s) in
+        omega (arith, a, o .ended .last, o .behind .at)
     go (Refused cause) e =
         let b = ap (λ (x : List (List ℕ)). length (framesIn x)) (payloads-refused s cause e) ∙ frames-in-none in
         omega (arith, b)
 
 -- ---- what a sound recording tells
 
--- its parts, from the answer
-pub record Told (s : List ℕ) (x : Summary) : Type 0 where
-  pub heading : Heading
-  pub walked : walkedOf s ≡ Whole heading
-  pub unit : x .unit ≡ heading .unit
-  pub number : x .number ≡ heading .number
-  pub frames : x .frames ≡ heading .frames
-  pub repaired : x .repaired ≡ repairedIn (framesOf s)
-  pub breaks : x .breaks ≡ breaksFrom 1 (framesOf s)
-
-pub sound-told : (s : List ℕ) (x : Summary) → judgedOf s ≡ Judged.Sound x → Told s x
-unfolding judgedOf
-sound-told s x e = go (walkedOf s) refl e
-  where
-    go : (w : Walked) → walkedOf s ≡ w → judgedBy w (framesOf s) ≡ Judged.Sound x → Told s x
-    go (Whole h) i o =
-        let y : x
-        ≡ record {
-          unit = h .unit;
-          number = h .number;
-          frames = h .frames;
-          repaired = repairedIn (framesOf s);
-          breaks = breaksFrom 1 (framesOf s);
-        } = cc in
-        record {
-          heading = h;
-          walked = i;
-          unit = ap (λ (z : Summary). z .unit) y;
-          number = ap (λ (z : Summary). z .number) y;
-          frames = ap (λ (z : Summary). z .frames) y;
-          repaired = ap (λ (z : Summary). z .repaired) y;
-          breaks = ap (λ (z : Summary). z .breaks) y;
-        }
-    go (Refused c) i o = absurd (let z : _≡_ {A = ℕ} 0 1 = cc in omega arith)
-
-pub frames-counted : (s : List ℕ) (h : Heading) → walkedOf s ≡ Whole h → h .frames ≡ length (framesOf s)
-unfolding framesOf
-frames-counted s h e =
-    let r = whole-opened s h (whole-short s h e) e .rest in
-    r .counted ∙ zero-add (length (framesIn (voicesFrom s afterHead)))
-    ∙ ap (λ (x : List (List ℕ)). length (framesIn x)) (sym (payloads-whole s h e))
-
 pub end-counts : EndCounts
-end-counts s x e = let t = sound-told s x e in t .frames ∙ frames-counted s (t .heading) (t .walked)
-
--- ---- the counts
-
-none-repaired : repairedIn [] ≡ 0
-unfolding repairedIn
-none-repaired = refl
-
-none-broken : (n : ℕ) → breaksFrom n [] ≡ 0
-unfolding breaksFrom
-none-broken n = refl
+unfolding framesOf
+end-counts s x e =
+    let j = judged-sound s x e in
+    ap (λ (y : Summary). y .frames) (j .1) ∙ sound-whole s (j .0) .behind .frames
 
 pub repairs-counted : RepairsCounted
-repairs-counted s x e =
-    sound-told s x e .repaired
-    ∙ counted [] (λ n f. repairBy (readingOf f .number)) (λ n fs. repairedIn fs) (λ n. none-repaired) (λ n f fs. repaired-more f fs) (framesOf s) 0
+unfolding countsTo
+repairs-counted s x e = ap (λ (y : Summary). y .counts .repaired) (judged-sound s x e .1)
 
 pub breaks-counted : BreaksCounted
-breaks-counted s x e =
-    sound-told s x e .breaks
-    ∙ counted [] (λ n f. breakBy n (readingOf f .indices .sy)) breaksFrom none-broken breaks-more (framesOf s) 0
-    ∙ total-cong (λ n. breakBy (0 + n) (readingOf (frameAt s n) .indices .sy)) (λ n. breakBy n (readingOf (frameAt s n) .indices .sy))
-    (length (framesOf s)) (λ n a l. ap (λ (k : ℕ). breakBy k (readingOf (frameAt s n) .indices .sy)) (zero-add n))
+unfolding countsTo
+breaks-counted s x e = ap (λ (y : Summary). y .counts .breaks) (judged-sound s x e .1)
 
 -- ---- a refused recording
 
-pub refused-walked : (s : List ℕ) (c : Cause) → judgedOf s ≡ Judged.Refused c → walkedOf s ≡ Refused c
-unfolding judgedOf
-refused-walked s c e = go (walkedOf s) e
-  where
-    go : (w : Walked) → judgedBy w (framesOf s) ≡ Judged.Refused c → w ≡ Refused c
-    go (Whole h) o = absurd (let z : _≡_ {A = ℕ} 0 1 = cc in omega arith)
-    go (Refused d) o = let y : d ≡ c = cc in ap Refused y
-
 pub refused-has-none : RefusedHasNone
-refused-has-none s c e = let w = refused-walked s c e in (λ k. block-refused s k c w, frames-refused s c w)
+refused-has-none s c e =
+    let w = judged-refused s c e in
+    (λ k. no-such-block s k (let n = ap length (payloads-refused s c w) in omega (arith, n)), frames-refused s c w)
 
 pub empty-refused : EmptyRefused
 unfolding judgedOf walkedOf walkFrom turns stepOf blockAt

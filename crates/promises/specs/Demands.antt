@@ -8,9 +8,10 @@ use Rattle.promises.specs.Repairs.{CleanChangesNothing, ParityHitChanges
 use Rattle.promises.specs.Boundary.{PairsHoldRecord, ReadTells, WriteTells, BoundaryReadsBack}
 use Rattle.promises.specs.Values.{NearestEntry, GainsComeBack, CgMirrored, DelaysRise, EachByteOnce, DelaysComeBack, FixedWindows, GainsHeard, DelaysHeard, Averaged, FirstAveraged, StateHolds, MarkIsLowest, Ternary, CodesOverlap, DrawsWrap, DrawsAtPositions}
 use Rattle.promises.specs.Numbers.{WriterNumbers, HearingNumbers, DelayNumbers, CodeNumbers, GainNumbers, RecordingNumbers}
-use Rattle.promises.specs.Rule.{LowestFirst, RefusedExactly, SoundExactly}
+use Rattle.promises.specs.Rule.{LowestFirst, RefusedExactly, RefusedKeeps, SoundExactly}
 use Rattle.promises.specs.Made.{MadeIsSound, SoundIsMade, NoTwo}
-use Rattle.promises.specs.Parts.{VoiceBlocksStand, FramesAreAll, FramesAreLong, FramesFit, EndCounts, RepairsCounted, BreaksCounted, RefusedHasNone, EmptyRefused}
+use Rattle.promises.specs.Parts.{VoiceBlocksStand, NoSuchBlock, FramesAreAll, FramesAreLong, FramesFit, EndCounts}
+use Rattle.promises.specs.Parts.{RepairsCounted, BreaksCounted, RefusedHasNone, EmptyRefused}
 use Rattle.promises.specs.Running.{StateRunsOn, NothingBeyond, PassHears, SoFarAlone}
 use Rattle.promises.specs.Worked.{AllTwelve}
 
@@ -44,6 +45,7 @@ pub record DemandOne : Type 0 where
   pub refused-write-stays : RefusedWriteStays
   -- recordings
   pub refused-exactly : RefusedExactly
+  pub refused-keeps : RefusedKeeps
   pub sound-exactly : SoundExactly
   pub lowest-first : LowestFirst
   pub refused-has-none : RefusedHasNone
@@ -92,6 +94,7 @@ pub record DemandTwo : Type 0 where
   pub sound-is-made : SoundIsMade
   pub no-two : NoTwo
   pub voice-blocks-stand : VoiceBlocksStand
+  pub no-such-block : NoSuchBlock
   pub frames-are-all : FramesAreAll
   pub frames-are-long : FramesAreLong
   pub frames-fit : FramesFit
