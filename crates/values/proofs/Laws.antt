@@ -231,7 +231,7 @@ module _ (r : Record) (before : State) (heard : outcomeOf r ≡ Heard) (n j : �
 -- ---- what a record that is not refused for an index has: LSPs, gains and delays of its own indices
 
 -- the bits of the ten LSPs are the widths of their fields
-bits-are-widths : (k : ℕ) → k < 10 → getD bits k 0 ≡ getD widths k 0
+pub bits-are-widths : (k : ℕ) → k < 10 → getD bits k 0 ≡ getD widths k 0
 bits-are-widths k h = eqb→eq _ _ (at 0 (λ i w. eqb w (getD widths i 0)) bits tt k h)
 
 module _ (r : Record) (fits : tooLarge r ≡ 0) where
