@@ -1,4 +1,5 @@
--- What the definitions of this crate come to, for callers: each code has sixty elements, each -1, 0 or 1, and overlaps its neighbour;
+-- What the definitions of this crate come to, for callers: each code has sixty elements, each -1, 0 or 1, and overlaps
+-- its neighbour;
 -- the wrapped sum; the positions.
 -- Assumes nothing.
 use mathlib.Core.Path.{_≡_, _∙_, sym, refl, ap}
@@ -68,7 +69,8 @@ one-of-three (pos n) h = inr (go (ℕ-discrete n 0))
 pub overlap : (n k : ℕ) → 1 ≤ n → n ≤ 511 → k ≤ 57 → getD (codeOf n) (k + 2) (pos 0) ≡ getD (codeOf (n - 1)) k (pos 0)
 overlap n k a b h =
     let e : 2 * (511 - n) + (k + 2) ≡ 2 * (511 - (n - 1)) + k = omega arith in
-    code-element n (k + 2) (omega arith) ∙ ap (λ (i : ℕ). getD book i (pos 0)) e ∙ sym (code-element (n - 1) k (omega arith))
+    code-element n (k + 2) (omega arith) ∙ ap (λ (i : ℕ). getD book i (pos 0)) e
+    ∙ sym (code-element (n - 1) k (omega arith))
 
 -- the wrapped sum of two numbers of sixteen bits is a number of sixteen bits
 pub sum-fits : (a b : ℤ) → SFits w16 a → SFits w16 b → SFits w16 (wrapped (a +ℤ b))
@@ -90,7 +92,8 @@ wrapped-congruent z = go (ltZ z (negsuc 32767)) (ltZ (pos 32767) z)
 -- and no other number of sixteen bits is
 pub sum-only : (a b x : ℤ) → SFits w16 a → SFits w16 b → SFits w16 x → Congruent x (a +ℤ b) → x ≡ wrapped (a +ℤ b)
 sum-only a b x f g h (m, e) =
-    sym (toZ-ofZ h) ∙ ap (toZ w16) (sym (sixteen.remainder-bits x h) ∙ ap sixteen.remainder e ∙ sixteen.remainder-multiple (a +ℤ b) m)
+    sym (toZ-ofZ h) ∙ ap (toZ w16)
+    (sym (sixteen.remainder-bits x h) ∙ ap sixteen.remainder e ∙ sixteen.remainder-multiple (a +ℤ b) m)
     ∙ sixteen.remainder-read (a +ℤ b) (sixteen.sum-below a b f g)
 
 -- a number counts as a position of 1 to 5, and such a position as itself

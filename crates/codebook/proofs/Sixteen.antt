@@ -1,4 +1,5 @@
--- Whole numbers on sixteen bits: the remainder on 65,536, and that the sum of two numbers' bits is the wrapped sum of the numbers.
+-- Whole numbers on sixteen bits: the remainder on 65,536, and that the sum of two numbers' bits is the wrapped sum of
+-- the numbers.
 -- Assumes nothing.
 use mathlib.Core.Path.{_≡_, _∙_, sym, refl, ap, subst}
 use mathlib.Core.Bool.{true, false, true≢false}
@@ -7,7 +8,8 @@ use native.Mathlib.Omega.{arith}
 use native.Mathlib.Decide.{decLe}
 use borrow.Author.Tests.{ltb-true, lt-ltb, le-ltb}
 use lib.Dec.{T}
-use lib.IntN.{ℤ, pos, negsuc, subℕ, negℤ, natAbs, _+ℤ_, _-ℤ_, _*ℤ_, +ℤ-idr, +ℤ-assoc, -ℤ-+ℤ-cancel, +ℤ-one, -ℤ-one, sucℤ-*ℤ, predℤ-*ℤ, ℤ-ind}
+use lib.IntN.{ℤ, pos, negsuc, subℕ, negℤ, natAbs, _+ℤ_, _-ℤ_, _*ℤ_, +ℤ-idr, +ℤ-assoc, -ℤ-+ℤ-cancel, +ℤ-one, -ℤ-one}
+use lib.IntN.{sucℤ-*ℤ, predℤ-*ℤ, ℤ-ind}
 use lib.Signed.{mag, nonNeg, ltZ}
 use mir.Syntax.{w16, w32}
 use mir.Val.{Fits, SFits, hbits, ofZ, toZ}
@@ -110,7 +112,9 @@ mixed : (m n : ℕ) → m < 32768 → n < 32768 → (m + (65536 - suc n)) % 6553
 mixed m n f g = go (decLe (suc n) m)
   where
     go : Dec (suc n ≤ m) → (m + (65536 - suc n)) % 65536 ≡ remainder (subℕ m (suc n))
-    go (yes h) = let e : (m + (65536 - suc n)) % 65536 ≡ (m - suc n) % 65536 = omega arith in e ∙ ap remainder (sym (sub-over m (suc n) h))
+    go (yes h) =
+        let e : (m + (65536 - suc n)) % 65536 ≡ (m - suc n) % 65536 = omega arith in
+        e ∙ ap remainder (sym (sub-over m (suc n) h))
     go (no h) =
         let e : (m + (65536 - suc n)) % 65536 ≡ 65535 - (suc n - suc m) % 65536 = omega arith in
         e ∙ ap remainder (sym (sub-under m (suc n) (omega arith)))

@@ -1,4 +1,4 @@
--- The draws that the book is made of: the function `random` of 3.3.1, over five kept numbers y and two positions, k and j.
+-- The draws that the book is made of: the function `random` of 3.3.1, over five kept numbers y and two positions k, j.
 use mathlib.Core.Bool.{cond}
 use mathlib.Core.List.{List, [], _∷_}
 use Prim.Native.Nat.{ℕ, zero, suc, _-_, _%_}

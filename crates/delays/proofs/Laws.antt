@@ -50,7 +50,8 @@ rank-upto rank last h l = here (decLe rank last)
     here (yes s) = s
     here (no n) = absurd (omega (arith, twelfths-rise last rank (omega arith) h))
 
--- the same in twelfths, as 3.5.5 has it: after 20.00 to 29.25 the codes run from 20.00 to 38.33, after 115 to 147 from 84 to 147
+-- the same in twelfths, as 3.5.5 has it: after 20.00 to 29.25 the codes run from 20.00 to 38.33, after 115 to 147 from
+-- 84 to 147
 pub window-start : (rank : ℕ) → rank < 256 → twelfthsOf rank ≤ 351
     → (twelfthsOf (afterOf rank 0) ≡ 240) × (twelfthsOf (afterOf rank 63) ≡ 460)
 unfolding delays twelfthsOf
@@ -72,7 +73,10 @@ window-end rank h l =
 -- the rank after another is in its window, as far above the base as the code says
 pub after-in : (rank step : ℕ) → step < 64 → inWindow rank (afterOf rank step) ≡ true
 after-in rank step h =
-    simp (le-leb (baseOf rank) (afterOf rank step) (omega arith), le-leb (afterOf rank step) (baseOf rank + 63) (omega arith))
+    simp (
+      le-leb (baseOf rank) (afterOf rank step) (omega arith),
+      le-leb (afterOf rank step) (baseOf rank + 63) (omega arith),
+    )
 
 after-back : (rank step : ℕ) → afterOf rank step - baseOf rank ≡ step
 after-back rank step = omega arith
@@ -161,7 +165,8 @@ same-delays : {p q r s w x y z : ℕ} → Delays p q r s ≡ Delays w x y z → 
 same-delays e = cc
 
 -- codes to delays to codes: the codes come back
-pub codes-back : (a b c d w x y z : ℕ) → meantBy (a ∷ b ∷ c ∷ d ∷ []) ≡ Delays w x y z → codedOf (w ∷ x ∷ y ∷ z ∷ []) ≡ Codes a b c d
+pub codes-back : (a b c d w x y z : ℕ) → meantBy (a ∷ b ∷ c ∷ d ∷ []) ≡ Delays w x y z
+    → codedOf (w ∷ x ∷ y ∷ z ∷ []) ≡ Codes a b c d
 unfolding meantBy
 codes-back a b c d w x y z e =
     let m = meant-fit a b c d e in
@@ -174,11 +179,13 @@ Within delay = (240 ≤ delay) × (delay ≤ 1764)
 rank-within : (rank : ℕ) → rank < 256 → Within (twelfthsOf rank)
 rank-within rank h = (twelfths-low rank h, twelfths-high rank h)
 
-pub meant-within : (a b c d w x y z : ℕ) → fourMeant a b c d ≡ Delays w x y z → Within w × Within x × Within y × Within z
+pub meant-within : (a b c d w x y z : ℕ) → fourMeant a b c d ≡ Delays w x y z
+    → Within w × Within x × Within y × Within z
 meant-within a b c d w x y z e =
     let m = meant-fit a b c d e in
     let f = m .0 in
-    let s : Delays (firstMeant a b c d) (secondMeant a b c d) (thirdMeant a b c d) (fourthMeant a b c d) ≡ Delays w x y z = m .1 in (
+    let s : Delays (firstMeant a b c d) (secondMeant a b c d) (thirdMeant a b c d) (fourthMeant a b c d)
+    ≡ Delays w x y z = m .1 in (
       subst Within (cc) (rank-within (rankOf a) (rank-below a (f .first))),
       subst Within (cc) (rank-within (afterOf (rankOf a) b) (after-below (rankOf a) b (f .second))),
       subst Within (cc) (rank-within (rankOf c) (rank-below c (f .third))),
@@ -213,7 +220,8 @@ pair-back w x a b lw lx i ea eb =
     let l : a < 256 = omega (arith, byte-below (rankWith w) hw) in
     let f : rankOf a ≡ rankWith w = ap rankOf (sym ea) ∙ rank-byte (rankWith w) hw in
     let s = window-step (rankWith w) (rankWith x) i in
-    let n : afterOf (rankOf a) b ≡ rankWith x = ap (λ (r : ℕ). afterOf r b) f ∙ ap (afterOf (rankWith w)) (sym eb) ∙ s .1 in
+    let n : afterOf (rankOf a) b ≡ rankWith x =
+    ap (λ (r : ℕ). afterOf r b) f ∙ ap (afterOf (rankWith w)) (sym eb) ∙ s .1 in
     record {
       byte = l;
       step = omega (arith, s .0);
@@ -245,7 +253,8 @@ module _ (w x y z a b c d : ℕ) where
       let on = pair-on 1 w x _ e in
       let off = pair-on 3 y z _ (on .3) in
       let step = rankWith x - baseOf (rankWith w) in
-      let last : Codes (printedByte (rankWith w)) step (printedByte (rankWith y)) (rankWith z - baseOf (rankWith y)) ≡ Codes a b c d =
+      let last : Codes (printedByte (rankWith w)) step (printedByte (rankWith y)) (rankWith z - baseOf (rankWith y))
+      ≡ Codes a b c d =
       off .3 in
       let p = pair-back w x a b (on .0) (on .1) (on .2) (cc) (cc) in
       let q = pair-back y z c d (off .0) (off .1) (off .2) (cc) (cc) in

@@ -1,5 +1,5 @@
--- A pair of subframes, 1 and 2 or 3 and 4: what each test of `coded_pair` tells of the definitions, and how the answers for two pairs
--- make those for four subframes.
+-- A pair of subframes, 1 and 2 or 3 and 4: what each test of `coded_pair` tells of the definitions, and how the answers
+-- for two pairs make those for four subframes.
 -- Assumes nothing.
 use mathlib.Core.Path.{_≡_, _∙_, sym, refl, ap}
 use mathlib.Core.Bool.{Bool, true, false}
@@ -54,7 +54,8 @@ module _ (codes : List ℕ) where
     module _ (second : getD codes 1 0 ≤ 63) where
       pub third-large : 255 < getD codes 2 0 → TooLarge 3 ≡ meantBy codes
       unfolding meantBy
-      third-large h = rw (le-leb (getD codes 0 0) 255 first, le-leb (getD codes 1 0) 63 second, lt-leb (getD codes 2 0) 255 h)
+      third-large h =
+          rw (le-leb (getD codes 0 0) 255 first, le-leb (getD codes 1 0) 63 second, lt-leb (getD codes 2 0) 255 h)
 
       module _ (third : getD codes 2 0 ≤ 255) where
         pub fourth-large : 63 < getD codes 3 0 → TooLarge 4 ≡ meantBy codes
@@ -143,7 +144,8 @@ pair-carried : (n a b : ℕ) (rest : ℕ → ℕ → Coded)
     → carried n (codedPair a b) rest ≡ pairOf n a b (rest (rankWith a) (rankWith b - baseOf (rankWith a)))
 unfolding codedPair
 pair-carried n a b rest =
-    carried-tests n (rankWith a) (rankWith b - baseOf (rankWith a)) rest (listed a) (listed b) (inWindow (rankWith a) (rankWith b))
+    carried-tests n (rankWith a) (rankWith b - baseOf (rankWith a)) rest (listed a) (listed b)
+    (inWindow (rankWith a) (rankWith b))
 
 -- the codes from the table of bytes
 module _ {table : List ℕ} (t : table ≡ bytes) where
@@ -165,11 +167,13 @@ module _ (t : List ℕ) where
   whole =
       pair-carried 1 (getD t 0 0) (getD t 1 0) later
       ∙ ap (pairOf 1 (getD t 0 0) (getD t 1 0))
-      (pair-carried 3 (getD t 2 0) (getD t 3 0) (bothInside (rankWith (getD t 0 0)) (rankWith (getD t 1 0) - baseOf (rankWith (getD t 0 0)))))
+      (pair-carried 3 (getD t 2 0) (getD t 3 0)
+      (bothInside (rankWith (getD t 0 0)) (rankWith (getD t 1 0) - baseOf (rankWith (getD t 0 0)))))
 
   pub by-first : {p : Pair} → codedPair (getD t 0 0) (getD t 1 0) ≡ p → carried 1 p later ≡ codedOf t
   by-first e = ap (λ (x : Pair). carried 1 x later) (sym e) ∙ whole
 
-  pub by-second : {r s : ℕ} {q : Pair} → codedPair (getD t 0 0) (getD t 1 0) ≡ Inside r s → codedPair (getD t 2 0) (getD t 3 0) ≡ q
+  pub by-second : {r s : ℕ} {q : Pair} → codedPair (getD t 0 0) (getD t 1 0) ≡ Inside r s
+      → codedPair (getD t 2 0) (getD t 3 0) ≡ q
       → carried 3 q (bothInside r s) ≡ codedOf t
   by-second {r} {s} e f = ap (λ (x : Pair). carried 3 x (bothInside r s)) (sym f) ∙ by-first e

@@ -1,5 +1,5 @@
--- The steps of `distance`: at any width of more than 32 bits the difference of an `i32` and an `i16` fits; at 64 so does its negative,
--- and whichever of the two is not negative is the distance.
+-- The steps of `distance`: at any width of more than 32 bits the difference of an `i32` and an `i16` fits; at 64 so
+-- does its negative, and whichever of the two is not negative is the distance.
 -- Assumes nothing.
 use mathlib.Core.Path.{_≡_, _∙_, sym, ap, subst}
 use mathlib.Core.Bool.{true, false}
@@ -24,7 +24,8 @@ small {x} {entry} f g = omega (arith, mag-sub x entry, f .sfits, g .sfits)
 roomy : (w : Width) → T (ltb 32 (hbits w)) → {z : ℤ} → mag z ≤ 2 ^ 32 → SFits w z
 roomy w wide h = record { sfits = lt-of-le-of-lt h (pow-lt (ltb→lt 32 (hbits w) wide)) }
 
-pub difference-fits : (w : Width) → T (ltb 32 (hbits w)) → {x entry : ℤ} → SFits w32 x → SFits w16 entry → SFits w (x -ℤ entry)
+pub difference-fits : (w : Width) → T (ltb 32 (hbits w)) → {x entry : ℤ} → SFits w32 x → SFits w16 entry
+    → SFits w (x -ℤ entry)
 difference-fits w wide f g = roomy w wide (omega (arith, small f g))
 
 module _ {x entry : ℤ} (f : SFits w32 x) (g : SFits w16 entry) where
@@ -66,7 +67,8 @@ module _ {x entry : ℤ} (f : SFits w32 x) (g : SFits w16 entry) where
   -- and the one that is not negative goes into a `u64`
   pub turned-goes : ltZ difference (pos 0) ≡ true → T (nonNeg turned) × Fits w64 (natAbs turned)
   turned-goes e = (
-    subst (λ (z : ℤ). T (nonNeg z)) (sym turned-is) (nonNeg-turned (x -ℤ entry) (ap (λ (z : ℤ). ltZ z (pos 0)) (sym difference-is) ∙ e)),
+    subst (λ (z : ℤ). T (nonNeg z)) (sym turned-is)
+        (nonNeg-turned (x -ℤ entry) (ap (λ (z : ℤ). ltZ z (pos 0)) (sym difference-is) ∙ e)),
     subst (Fits w64) (sym turned-apart) fits-apart,
   )
 

@@ -48,7 +48,8 @@ module _ (x : ℤ) where
           absurd
           (subst T t
           (every-of (pos 0) (notNearer e) es
-          (λ k b. le→leb (apart x e) (apartAt es x k) (let l : apartAt es x i ≤ apartAt es x k = p .least k b in omega arith))))
+          (λ k b. le→leb (apart x e) (apartAt es x k)
+          (let l : apartAt es x i ≤ apartAt es x k = p .least k b in omega arith))))
 
   -- and it is the nearest of all, one index further on
   later : (e : ℤ) (es : List ℤ) (i : ℕ) → noneNearer e es ≡ false → Nearest es x i → Nearest (e ∷ es) x (suc i)
@@ -65,7 +66,8 @@ module _ (x : ℤ) where
       lowest′ n (suc k) h = p .lowest k (omega arith)
 
   -- so the test decides between the two
-  either : (e : ℤ) (es : List ℤ) (i : ℕ) (b : Bool) → noneNearer e es ≡ b → (b ≡ false → Nearest es x i) → Nearest (e ∷ es) x (cond b 0 (suc i))
+  either : (e : ℤ) (es : List ℤ) (i : ℕ) (b : Bool) → noneNearer e es ≡ b → (b ≡ false → Nearest es x i)
+      → Nearest (e ∷ es) x (cond b 0 (suc i))
   either e es i true t p = first e es t
   either e es i false t p = later e es i t (p refl)
 
@@ -140,14 +142,20 @@ module _ (low high : ℤ) (size : ℕ) where
       let b = leZ v high in
       let c = leb (natAbs v) size in
       let rest = both-right a (both b c) t in
-      record { above = leZ-yes (both-left a (both b c) t); below = leZ-yes (both-left b c rest); small = leb→le (natAbs v) size (both-right b c rest) }
+      record {
+        above = leZ-yes (both-left a (both b c) t);
+        below = leZ-yes (both-left b c rest);
+        small = leb→le (natAbs v) size (both-right b c rest);
+      }
 
   -- a table over which it passes has only such entries
-  all-ranged : (table : List ℤ) → T (every inRange 0 table) → length table ≡ 32 → (i : ℕ) → i ≤ 31 → Ranged low high size (getD table i (pos 0))
+  all-ranged : (table : List ℤ) → T (every inRange 0 table) → length table ≡ 32 → (i : ℕ) → i ≤ 31
+      → Ranged low high size (getD table i (pos 0))
   all-ranged table t l i h = ranged i (getD table i (pos 0)) (at (pos 0) inRange table t i (omega arith))
 
   -- and answers only such gains
-  given-ranged : (table : List ℤ) → T (every inRange 0 table) → length table ≡ 32 → (i : ℕ) (v : ℤ) → gainOf table i ≡ Value v → Ranged low high size v
+  given-ranged : (table : List ℤ) → T (every inRange 0 table) → length table ≡ 32 → (i : ℕ) (v : ℤ)
+      → gainOf table i ≡ Value v → Ranged low high size v
   given-ranged table t l i v e =
       let g = gain-given table i v e in
       subst (Ranged low high size) (sym (g .1)) (all-ranged table t l i (g .0))

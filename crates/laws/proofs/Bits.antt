@@ -55,7 +55,8 @@ pub fromBits-cong : (f g : ℕ → ℕ) (w : ℕ) → ((i : ℕ) → i < w → f
 unfolding fromBits
 fromBits-cong f g zero h = refl
 fromBits-cong f g (suc w) h =
-    ap (λ (x : ℕ). x + f w * 2 ^ w) (fromBits-cong f g w (λ i p. h i (omega arith))) ∙ ap (λ (x : ℕ). fromBits g w + x * 2 ^ w) (h w (omega arith))
+    ap (λ (x : ℕ). x + f w * 2 ^ w) (fromBits-cong f g w (λ i p. h i (omega arith)))
+    ∙ ap (λ (x : ℕ). fromBits g w + x * 2 ^ w) (h w (omega arith))
 
 -- a new lowest bit
 pub fromBits-low : (f : ℕ → ℕ) (w : ℕ) → fromBits f (suc w) ≡ f 0 + 2 * fromBits (λ i. f (suc i)) w
@@ -77,7 +78,8 @@ bit-fromBits f (suc w) zero h l =
     let b = h 0 (omega arith) in
     rw a (omega arith)
 bit-fromBits f (suc w) (suc i) h l =
-    bit-suc (fromBits f (suc w)) i ∙ ap (λ (n : ℕ). bit n i) half ∙ bit-fromBits (λ k. f (suc k)) w i (λ k p. h (suc k) (omega arith)) (omega arith)
+    bit-suc (fromBits f (suc w)) i ∙ ap (λ (n : ℕ). bit n i) half
+    ∙ bit-fromBits (λ k. f (suc k)) w i (λ k p. h (suc k) (omega arith)) (omega arith)
   where
     half : fromBits f (suc w) / 2 ≡ fromBits (λ k. f (suc k)) w
     half =

@@ -1,4 +1,5 @@
--- A number whose bits are scattered over the places 1 to n: the sum of the places that belong to it is the number with those bits.
+-- A number whose bits are scattered over the places 1 to n: the sum of the places that belong to it is the number with
+-- those bits.
 -- Assumes nothing.
 use mathlib.Core.Path.{_≡_, _∙_, sym, refl, ap}
 use mathlib.Core.Bool.{Bool, true, false, cond}
@@ -11,7 +12,8 @@ use Rattle.laws.specs.Table.{both}
 use Rattle.laws.specs.Total.{total, fromBits}
 use Rattle.laws.proofs.Total.{total-cong, total-most, total-change}
 
--- places 1 to n, each belonging to the number `owner` says, as its bit `rank`; of number f bit i stands at `place i`, and only there
+-- places 1 to n, each belonging to the number `owner` says, as its bit `rank`; of number f bit i stands at `place i`,
+-- and only there
 pub record Scattered (n : ℕ) (owner rank : ℕ → ℕ) (f w : ℕ) (place : ℕ → ℕ) : Type 0 where
   pub first : (i : ℕ) → i < w → 1 ≤ place i
   pub last : (i : ℕ) → i < w → place i ≤ n
@@ -66,7 +68,8 @@ module _ {n : ℕ} {owner rank : ℕ → ℕ} {f w : ℕ} {place : ℕ → ℕ} 
       omega (arith, z)
   upTo (suc v) h =
       let rest = upTo v (omega arith) in
-      let change = total-change (part v) (part (suc v)) (place v) n (s .first v h) (s .last v h) (λ q a l e. same v q h a l e) in
+      let change = total-change (part v) (part (suc v)) (place v) n (s .first v h) (s .last v h)
+      (λ q a l e. same v q h a l e) in
       let none = part-above v (place v) (let e = s .ranked v h in omega (arith, e)) in
       let gain : part (suc v) (place v) ≡ b (place v) * 2 ^ v
       = part-in (suc v) (place v) (s .owned v h) (let e = s .ranked v h in omega (arith, e))
@@ -76,7 +79,8 @@ module _ {n : ℕ} {owner rank : ℕ → ℕ} {f w : ℕ} {place : ℕ → ℕ} 
   -- all of its places
   pub collected : total (λ q. cond (eqb (owner q) f) (b q * 2 ^ rank q) 0) n ≡ fromBits (λ i. b (place i)) w
   collected =
-      total-cong (λ q. cond (eqb (owner q) f) (b q * 2 ^ rank q) 0) (part w) n (λ q a l. whole q a l (ℕ-discrete (owner q) f)) ∙ upTo w (omega arith)
+      total-cong (λ q. cond (eqb (owner q) f) (b q * 2 ^ rank q) 0) (part w) n
+      (λ q a l. whole q a l (ℕ-discrete (owner q) f)) ∙ upTo w (omega arith)
     where
       whole : (q : ℕ) → 1 ≤ q → q ≤ n → Dec (owner q ≡ f) → cond (eqb (owner q) f) (b q * 2 ^ rank q) 0 ≡ part w q
       whole q a l (yes o) = rw (eq-eqb (owner q) f o) (sym (part-in w q o (s .below q a l o)))

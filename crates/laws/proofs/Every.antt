@@ -18,7 +18,8 @@ module _ {A : Type 0} (d : A) (f : ℕ → A → Bool) where
   from [] i p = tt
   from (x ∷ xs) i p =
       both-of (f i x) (every f (suc i) xs) (subst (λ (m : ℕ). T (f m x)) (add-zero i) (p 0 (zero-lt-suc (length xs))))
-      (from xs (suc i) (λ k h. subst (λ (m : ℕ). T (f m (getD xs k d))) (add-suc i k ∙ sym (suc-add i k)) (p (suc k) (suc-le-suc h))))
+      (from xs (suc i) (λ k h. subst (λ (m : ℕ). T (f m (getD xs k d))) (add-suc i k ∙ sym (suc-add i k))
+      (p (suc k) (suc-le-suc h))))
 
   -- a test that passes at each entry passes over the whole table
   pub every-of : (xs : List A) → ((k : ℕ) → k < length xs → T (f k (getD xs k d))) → T (every f 0 xs)

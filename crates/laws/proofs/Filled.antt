@@ -36,7 +36,8 @@ module _ {A : Type 0} (d : A) (f : ℕ → A) (n : ℕ) where
 
   -- the same where the loop was left
   pub filled-done : {i : ℕ} (l : List A) → n ≤ i → Filled d f n i l → l ≡ tabulate f n
-  filled-done {i} l h p = filled-all l (record { long = p .long; upto = omega arith; here = λ k q. p .here k (omega arith) })
+  filled-done {i} l h p =
+      filled-all l (record { long = p .long; upto = omega arith; here = λ k q. p .here k (omega arith) })
 
 -- the loop that copies a list: the first k places hold what it holds there
 module _ {A : Type 0} (d : A) (part : List A) where
@@ -46,7 +47,8 @@ module _ {A : Type 0} (d : A) (part : List A) where
   pub copied-none : (out : List A) → length out ≡ length part → Copied 0 out
   copied-none out e = filled-none _ _ _ out e
 
-  pub copied-more : {k : ℕ} {out : List A} (v : A) → Copied k out → k < length part → v ≡ getD part k d → Copied (k + 1) (set out k v)
+  pub copied-more : {k : ℕ} {out : List A} (v : A) → Copied k out → k < length part → v ≡ getD part k d
+      → Copied (k + 1) (set out k v)
   copied-more {k} {out} v p h e = filled-more _ _ _ k out v p h e
 
   pub copied-all : {k : ℕ} {out : List A} → Copied k out → length part ≤ k → out ≡ part

@@ -24,7 +24,8 @@ module _ {A : Type 0} (d : A) (one : ℕ → A → ℕ) (all : ℕ → List A �
       more (suc m) x xs
       ∙ ap₂ _+_ (ap (λ (k : ℕ). one k x) (sym (add-one m)))
       (counted xs (suc m)
-      ∙ total-cong (λ n. one (suc m + n) (getD xs (n - 1) d)) (λ n. one (m + suc n) (getD (x ∷ xs) (suc n - 1) d)) (length xs) (λ n a l. later n a))
+      ∙ total-cong (λ n. one (suc m + n) (getD xs (n - 1) d)) (λ n. one (m + suc n) (getD (x ∷ xs) (suc n - 1) d))
+      (length xs) (λ n a l. later n a))
       ∙ sym (total-first (λ n. one (m + n) (getD (x ∷ xs) (n - 1) d)) (length xs))
     where
       later : (n : ℕ) → 1 ≤ n → one (suc m + n) (getD xs (n - 1) d) ≡ one (m + suc n) (getD (x ∷ xs) (suc n - 1) d)

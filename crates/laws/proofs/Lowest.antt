@@ -10,7 +10,8 @@ use Rattle.laws.specs.Lowest.{lowestFrom, lowest}
 
 module _ (t : ℕ → Bool) where
   -- the test fails below j and holds at j
-  from-at : (k i d : ℕ) → d < k → ((m : ℕ) → i ≤ m → m < i + d → t m ≡ false) → t (i + d) ≡ true → lowestFrom t i k ≡ i + d
+  from-at : (k i d : ℕ) → d < k → ((m : ℕ) → i ≤ m → m < i + d → t m ≡ false) → t (i + d) ≡ true
+      → lowestFrom t i k ≡ i + d
   unfolding lowestFrom
   from-at zero i d h none here = absurd (omega arith)
   from-at (suc k) i zero h none here =
@@ -19,7 +20,8 @@ module _ (t : ℕ → Bool) where
   from-at (suc k) i (suc d) h none here =
       let e : t i ≡ false = none i (omega arith) (omega arith) in
       rw e
-      (from-at k (suc i) d (omega arith) (λ m a b. none m (omega arith) (omega arith)) (subst (λ (m : ℕ). t m ≡ true) (omega arith) here)
+      (from-at k (suc i) d (omega arith) (λ m a b. none m (omega arith) (omega arith))
+      (subst (λ (m : ℕ). t m ≡ true) (omega arith) here)
       ∙ omega arith)
 
   from-none : (k i : ℕ) → ((m : ℕ) → i ≤ m → m < i + k → t m ≡ false) → lowestFrom t i k ≡ 0
@@ -33,7 +35,8 @@ module _ (t : ℕ → Bool) where
   pub lowest-at : (n j : ℕ) → 1 ≤ j → j ≤ n → ((m : ℕ) → 1 ≤ m → m < j → t m ≡ false) → t j ≡ true → lowest t n ≡ j
   lowest-at n zero a b none here = absurd (omega arith)
   lowest-at n (suc d) a b none here =
-      from-at n 1 d (omega arith) (λ m p q. none m p (omega arith)) (subst (λ (m : ℕ). t m ≡ true) (omega arith) here) ∙ omega arith
+      from-at n 1 d (omega arith) (λ m p q. none m p (omega arith)) (subst (λ (m : ℕ). t m ≡ true) (omega arith) here)
+      ∙ omega arith
 
   -- it holds at none
   pub lowest-none : (n : ℕ) → ((m : ℕ) → 1 ≤ m → m ≤ n → t m ≡ false) → lowest t n ≡ 0
@@ -60,7 +63,8 @@ module _ (t : ℕ → Bool) where
       here rest false q (no w) = rest (sym (from-step k i false q) ∙ e) m (omega arith) (omega arith)
 
   from-found : (k i j : ℕ) → lowestFrom t i k ≡ j → 1 ≤ j → First k i j
-  from-found zero i j e q = absurd (let z : 0 ≡ j = sym (from-none zero i (λ m a b. absurd (omega arith))) ∙ e in omega arith)
+  from-found zero i j e q =
+      absurd (let z : 0 ≡ j = sym (from-none zero i (λ m a b. absurd (omega arith))) ∙ e in omega arith)
   from-found (suc k) i j e q = here (λ w. from-found k (suc i) j w q) (t i) refl
     where
       below : t i ≡ false → First k (suc i) j → (m : ℕ) → i ≤ m → m < j → Dec (m ≡ i) → t m ≡ false
@@ -81,7 +85,8 @@ module _ (t : ℕ → Bool) where
   lowest-zero n e m a b = from-zero n 1 (omega arith) e m a (omega arith)
 
   -- any other answer is a number of 1 to n at which it holds, and it holds at none below
-  pub lowest-found : (n j : ℕ) → lowest t n ≡ j → 1 ≤ j → (j ≤ n) × (t j ≡ true) × ((m : ℕ) → 1 ≤ m → m < j → t m ≡ false)
+  pub lowest-found : (n j : ℕ) → lowest t n ≡ j → 1 ≤ j
+      → (j ≤ n) × (t j ≡ true) × ((m : ℕ) → 1 ≤ m → m < j → t m ≡ false)
   lowest-found n j e q =
       let r = from-found n 1 j e q in
       (omega (arith, r .1), r .2, r .3)

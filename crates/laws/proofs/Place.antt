@@ -19,7 +19,8 @@ pub place-entry : (x : ℕ) (xs : List ℕ) → placeIn x xs < length xs → get
 place-entry x [] h = absurd (omega arith)
 place-entry x (y ∷ ys) h = here (place-entry x ys) (eqb x y) refl
   where
-    here : (placeIn x ys < length ys → getD ys (placeIn x ys) 0 ≡ x) → (b : Bool) → eqb x y ≡ b → getD (y ∷ ys) (placeIn x (y ∷ ys)) 0 ≡ x
+    here : (placeIn x ys < length ys → getD ys (placeIn x ys) 0 ≡ x) → (b : Bool) → eqb x y ≡ b
+        → getD (y ∷ ys) (placeIn x (y ∷ ys)) 0 ≡ x
     here rest true e = rw (place-step x y ys true e) (sym (eqb-true x y e))
     here rest false e = rw (place-step x y ys false e) (rest (omega (arith, place-step x y ys false e)))
 

@@ -72,7 +72,8 @@ average-most n a b p q =
 
 -- of a value with itself it is eight times that
 pub average-same : (n a : ℕ) → 1 ≤ n → n ≤ 4 → averageOf n a a ≡ 8 * a
-average-same n a p q = of-four (λ m. averageOf m a a ≡ 8 * a) n p q (omega arith) (omega arith) (omega arith) (omega arith)
+average-same n a p q =
+    of-four (λ m. averageOf m a a ≡ 8 * a) n p q (omega arith) (omega arith) (omega arith) (omega arith)
 
 -- it is no less where both values are no less
 pub average-rises : (n a b c d : ℕ) → 1 ≤ n → n ≤ 4 → a ≤ c → b ≤ d → averageOf n a b ≤ averageOf n c d
@@ -99,7 +100,8 @@ module _ (previous present : List ℕ) where
       → lsp (subframe n (averagesOf previous present)) j ≡ averageAt previous present n j
   subframe-at n j a b c d =
       let l : List ℕ = averagesOf previous present in
-      getD-take 10 (drop (10 * (n - 1)) l) (j - 1) 0 (omega arith) ∙ getD-drop (10 * (n - 1)) l (j - 1) 0 ∙ averages-at n j a b c d
+      getD-take 10 (drop (10 * (n - 1)) l) (j - 1) 0 (omega arith) ∙ getD-drop (10 * (n - 1)) l (j - 1) 0
+      ∙ averages-at n j a b c d
 
   -- where both frames are in order, the averages are in each subframe
   pub averages-in-order : (n : ℕ) → 1 ≤ n → n ≤ 4 → markOf previous ≡ 0 → markOf present ≡ 0
@@ -111,7 +113,8 @@ module _ (previous present : List ℕ) where
       (average-rises n _ _ _ _ a b (mark-in-order previous p j c d) (mark-in-order present q j c d)))
 
 -- where the previous values are the present ones, each average is eight times the value
-pub averages-same : (hz : List ℕ) (n j : ℕ) → 1 ≤ n → n ≤ 4 → 1 ≤ j → j ≤ 10 → getD (averagesOf hz hz) (10 * (n - 1) + (j - 1)) 0 ≡ 8 * lsp hz j
+pub averages-same : (hz : List ℕ) (n j : ℕ) → 1 ≤ n → n ≤ 4 → 1 ≤ j → j ≤ 10
+    → getD (averagesOf hz hz) (10 * (n - 1) + (j - 1)) 0 ≡ 8 * lsp hz j
 averages-same hz n j a b c d = averages-at hz hz n j a b c d ∙ average-same n (lsp hz j) a b
 
 -- ---- the table
@@ -182,7 +185,8 @@ module _ (indices : List ℕ) where
       lowest-at (overIn indices) 10 j a b (λ m p q. lt-leb _ _ (lower m p q)) (le-leb _ _ here)
 
   -- where every index fits, the ten are in Hz
-  pub hertz-given : tooLarge indices ≡ 0 → hertzOf indices ≡ record { verdict = Within; hz = tabulate (hzAt indices) 10 }
+  pub hertz-given : tooLarge indices ≡ 0
+      → hertzOf indices ≡ record { verdict = Within; hz = tabulate (hzAt indices) 10 }
   unfolding hertzOf
   hertz-given e = rw (eq-eqb (tooLarge indices) 0 e)
 

@@ -24,12 +24,15 @@ use Rattle.values.specs.Outcome.{outcomeOf}
 use Rattle.values.specs.Values.{cgIndex, pgIndex, valuesOf}
 use Rattle.values.specs.declared.State.{State}
 use Rattle.values.specs.declared.Outcome.the-variants.{Heard}
-use Rattle.values.proofs.Laws.{heard-fits, values-outcome, cg-index-small, pg-index-small, cg-given, pg-given, lsp-fits, present-at}
-use Rattle.values.proofs.Laws.{heard-delays, delays-four, delays-meant, heard-mark, later-averages, first-averages, heard-begun, heard-hz}
+use Rattle.values.proofs.Laws.{heard-fits, values-outcome, cg-index-small, pg-index-small, cg-given, pg-given, lsp-fits}
+use Rattle.values.proofs.Laws.{present-at}
+use Rattle.values.proofs.Laws.{heard-delays, delays-four, delays-meant, heard-mark, later-averages, first-averages}
+use Rattle.values.proofs.Laws.{heard-begun, heard-hz}
 use Rattle.values.proofs.Laws as values
 use Rattle.promises.specs.Values.{NearestEntry, GainsComeBack, CgMirrored, Subframe, GainsHeard}
 use Rattle.promises.specs.Values.{DelaysRise, EachByteOnce, DelaysComeBack, FixedWindows, DelaysHeard}
-use Rattle.promises.specs.Values.{LspsHeard, MarkHeard, MarkIsLowest, Averaged, FirstAveraged, FreshNotBegun, StateHolds}
+use Rattle.promises.specs.Values.{LspsHeard, MarkHeard, MarkIsLowest, Averaged, FirstAveraged, FreshNotBegun}
+use Rattle.promises.specs.Values.{StateHolds}
 use Rattle.promises.specs.Values.{Ternary, CodesOverlap, DrawsWrap, DrawsAtPositions}
 
 pub nearest-entry : NearestEntry

@@ -1,5 +1,5 @@
--- The second demand for what indices mean: "the gains, delays, averaged parameters and 512 ternary codes", over the definitions that the
--- contracts cite. That the tables are the printed ones is what EVIDENCE compares.
+-- The second demand for what indices mean: "the gains, delays, averaged parameters and 512 ternary codes", over the
+-- definitions that the contracts cite. That the tables are the printed ones is what EVIDENCE compares.
 use mathlib.Core.Path.{_≡_}
 use mathlib.Core.Bool.{true, false}
 use mathlib.Core.List.{List, [], _∷_}
@@ -34,7 +34,8 @@ NearestEntry = (x : ℤ) → Nearest cgTable x (nearestOf cgTable x) × Nearest 
 
 unfoldable pub GainsComeBack : Type 0
 GainsComeBack =
-    (i : ℕ) → i ≤ 31 → (nearestOf cgTable (getD cgTable i (pos 0)) ≡ i) × (nearestOf pgTable (getD pgTable i (pos 0)) ≡ i)
+    (i : ℕ) → i ≤ 31
+    → (nearestOf cgTable (getD cgTable i (pos 0)) ≡ i) × (nearestOf pgTable (getD pgTable i (pos 0)) ≡ i)
 
 -- "entry i is the negative of entry 31-i"
 unfoldable pub CgMirrored : Type 0
@@ -56,8 +57,8 @@ DelaysComeBack =
     → (w : ℕ) × (x : ℕ) × (y : ℕ) × (z : ℕ)
     × (meantBy (i ∷ j ∷ k ∷ l ∷ []) ≡ Delays w x y z) × (codedOf (w ∷ x ∷ y ∷ z ∷ []) ≡ Codes i j k l)
 
--- "Both ends of the list have fixed windows" (3.5.5): after delays up to 29.25 samples the 64 codes mean 20 to 38.33, after delays from
--- 115 on 84 to 147.
+-- "Both ends of the list have fixed windows" (3.5.5): after delays up to 29.25 samples the 64 codes mean 20 to 38.33,
+-- after delays from 115 on 84 to 147.
 unfoldable pub FixedWindows : Type 0
 FixedWindows =
     (rank : ℕ) → rank < 256
@@ -72,7 +73,8 @@ pub record Subframe (r : Record) (before : State) (n : ℕ) : Type 0 where
   pub pg : getD (valuesOf r before .pg) (n - 1) (pos 0) ≡ getD pgTable (pgIndex r n) (pos 0)
 
 unfoldable pub GainsHeard : Type 0
-GainsHeard = (r : Record) (before : State) → valuesOf r before .outcome ≡ Heard → (n : ℕ) → 1 ≤ n → n ≤ 4 → Subframe r before n
+GainsHeard =
+    (r : Record) (before : State) → valuesOf r before .outcome ≡ Heard → (n : ℕ) → 1 ≤ n → n ≤ 4 → Subframe r before n
 
 -- the delays that its four PD mean, whatever the state; none of the four is too large
 unfoldable pub DelaysHeard : Type 0
@@ -83,8 +85,8 @@ DelaysHeard =
     × (meantBy (pdIndex r 1 ∷ pdIndex r 2 ∷ pdIndex r 3 ∷ pdIndex r 4 ∷ [])
     ≡ Delays (getD delays 0 0) (getD delays 1 0) (getD delays 2 0) (getD delays 3 0))
 
--- LSP j in Hz is the entry of its own column at the record's own index, whenever the record's indices fit their fields (it may be refused
--- for its SP); and it is this one that is used.
+-- LSP j in Hz is the entry of its own column at the record's own index, whenever the record's indices fit their fields
+-- (it may be refused for its SP); and it is this one that is used.
 pub record Lsp (r : Record) (before : State) (j : ℕ) : Type 0 where
   pub within : indexOf r j < length (column j)
   pub present : lsp (presentOf r) j ≡ getD (column j) (indexOf r j) 0
@@ -95,10 +97,11 @@ LspsHeard = (r : Record) (before : State) → AllFit r → (j : ℕ) → 1 ≤ j
 
 -- the mark of a record that is heard is that of its LSPs
 unfoldable pub MarkHeard : Type 0
-MarkHeard = (r : Record) (before : State) → valuesOf r before .outcome ≡ Heard → valuesOf r before .mark ≡ markOf (presentOf r)
+MarkHeard =
+    (r : Record) (before : State) → valuesOf r before .outcome ≡ Heard → valuesOf r before .mark ≡ markOf (presentOf r)
 
--- "in subframe n, (9-2n) times the previous frame's value plus (2n-1) times the present one's"; "a fresh state takes the first frame's
--- own values", and then each average is eight times the value: so in any state in which no frame was heard.
+-- "in subframe n, (9-2n) times the previous frame's value plus (2n-1) times the present one's"; "a fresh state takes
+-- the first frame's own values", and then each average is eight times the value: so in any state that heard none.
 abbrev pub average : Record → State → ℕ → ℕ → ℕ
 average r before n j = getD (valuesOf r before .averages) (10 * (n - 1) + (j - 1)) 0
 
@@ -124,15 +127,17 @@ pub record Kept (r : Record) (before : State) : Type 0 where
 unfoldable pub StateHolds : Type 0
 StateHolds = (r : Record) (before : State) → valuesOf r before .outcome ≡ Heard → Kept r before
 
--- "The order mark of a record is the lowest j for which LSP j+1 is below LSP j, or 0 if there is none. Equal is in order."
+-- "The order mark of a record is the lowest j for which LSP j+1 is below LSP j, or 0 if there is none.
+-- Equal is in order."
 unfoldable pub MarkIsLowest : Type 0
 MarkIsLowest =
     (hz : List ℕ)
     → (markOf hz ≡ 0 → InOrder hz)
-    × ((j : ℕ) → markOf hz ≡ j → 1 ≤ j → (j ≤ 9) × (lsp hz (j + 1) < lsp hz j) × ((m : ℕ) → 1 ≤ m → m < j → lsp hz m ≤ lsp hz (m + 1)))
+    × ((j : ℕ) → markOf hz ≡ j → 1 ≤ j
+    → (j ≤ 9) × (lsp hz (j + 1) < lsp hz j) × ((m : ℕ) → 1 ≤ m → m < j → lsp hz m ≤ lsp hz (m + 1)))
 
--- Codes: there are 1,082 elements, and sixty in each code; "each element is -1, 0 or 1"; "element k+2 of code n is element k of code
--- n-1, for n from 1 to 511 and k to 57"
+-- Codes: there are 1,082 elements, and sixty in each code; "each element is -1, 0 or 1"; "element k+2 of code n is
+-- element k of code n-1, for n from 1 to 511 and k to 57"
 abbrev pub OneOfThree : ℤ → Type 0
 OneOfThree z = (z ≡ negℤ (pos 1)) ⊎ ((z ≡ pos 0) ⊎ (z ≡ pos 1))
 
@@ -148,8 +153,8 @@ CodesOverlap =
     → (length (codeOf n) ≡ 60) × (length (codeOf (n - 1)) ≡ 60)
     × ((k : ℕ) → k ≤ 57 → getD (codeOf n) (k + 2) (pos 0) ≡ getD (codeOf (n - 1)) k (pos 0))
 
--- Draws: "sixteen-bit sums that wrap": of the numbers kept at the two positions, the only number of sixteen bits that differs from their
--- sum by a multiple of 65,536.
+-- Draws: "sixteen-bit sums that wrap": of the numbers kept at the two positions, the only number of sixteen bits that
+-- differs from their sum by a multiple of 65,536.
 unfoldable pub DrawsWrap : Type 0
 DrawsWrap =
     (a b x : ℤ) → SFits w16 a → SFits w16 b → SFits w16 x

@@ -1,4 +1,5 @@
--- The twelve worked numbers of document 01, as one list over the definitions that the contracts cite. proofs/Worked.antt computes it.
+-- The twelve worked numbers of document 01, as one list over the definitions that the contracts cite.
+-- proofs/Worked.antt computes it.
 use mathlib.Core.Bool.{Bool, true, false, cond}
 use mathlib.Core.List.{List, [], _∷_, map}
 use Prim.Native.Nat.{ℕ, suc, _*_}
@@ -60,7 +61,11 @@ fifthAt index = hertzOf (0 ∷ 0 ∷ 0 ∷ 12 ∷ index ∷ 7 ∷ 7 ∷ 7 ∷ 7 
 
 unfoldable pub workedNumbers : List Worked
 workedNumbers =
-    record { number = 1; given = draws 4 freshGenerator; printed = pos 8472 ∷ minus 31377 ∷ minus 26172 ∷ pos 25681 ∷ [] } ∷
+    record {
+      number = 1;
+      given = draws 4 freshGenerator;
+      printed = pos 8472 ∷ minus 31377 ∷ minus 26172 ∷ pos 25681 ∷ [];
+    } ∷
     record { number = 2; given = read (only []); printed = pos 0 ∷ zeros 28 } ∷
     record { number = 3; given = read (only (104 ∷ [])); printed = pos 15 ∷ zeros 28 } ∷
     record {

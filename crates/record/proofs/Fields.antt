@@ -34,7 +34,8 @@ module _ (r : Record) {indices : List ℕ} (e : indices ≡ tabulate (λ k. inde
   same-over m a b =
       let back : m - 1 + 1 ≡ m = omega arith in
       ap (leb (2 ^ widthOf m))
-      (ap (λ (l : List ℕ). getD l (m - 1) 0) e ∙ getD-tabulate (λ k. indexOf r (k + 1)) 0 28 (m - 1) (omega arith) ∙ ap (indexOf r) back)
+      (ap (λ (l : List ℕ). getD l (m - 1) 0) e ∙ getD-tabulate (λ k. indexOf r (k + 1)) 0 28 (m - 1) (omega arith)
+      ∙ ap (indexOf r) back)
 
   pub as-record : {n : ℕ} → n ≡ lowest (overBy indices) 28 → n ≡ tooLarge r
   unfolding tooLarge
@@ -58,7 +59,8 @@ module _ {indices ws : List ℕ} {i : ℕ} (s : Passed indices ws i) where
 
   -- one field more whose index fits
   pub one-passed : getD indices i 0 / 2 ^ getD ws i 0 ≡ 0 → Passed indices ws (i + 1)
-  one-passed e = record { wide = s .wide; fit = fits-next (overBy indices) (getD indices i 0) (getD ws i 0) over-here (s .fit) e }
+  one-passed e =
+      record { wide = s .wide; fit = fits-next (overBy indices) (getD indices i 0) (getD ws i 0) over-here (s .fit) e }
 
   -- the lowest field whose index does not
   pub found-here : i < 28 → (getD indices i 0 / 2 ^ getD ws i 0 ≡ 0 → ⊥) → i + 1 ≡ lowest (overBy indices) 28

@@ -24,7 +24,8 @@ use Rattle.values.specs.declared.Outcome.{Outcome}
 use Rattle.values.specs.declared.Outcome.the-variants.{Heard, Nothing}
 use Rattle.values.specs.Outcome.{outcomeOf, isHeard}
 
--- the indices of subframe n: PD, PG and CG are the first, second and fourth of its four fields; the third, CI, has no value here
+-- the indices of subframe n: PD, PG and CG are the first, second and fourth of its four fields; the third, CI, has no
+-- value here
 abbrev pub pdIndex : Record → ℕ → ℕ
 pdIndex r n = indexOf r (10 + 4 * (n - 1) + 1)
 

@@ -2,7 +2,8 @@
 -- Assumes nothing.
 use Prim.Native.Nat.{_-_}
 use native.Mathlib.Omega.{arith}
-use Rattle.record.proofs.Fields.{Passed, none-passed, shift-small, one-passed, found-here, none-found-here, as-record}
+use Rattle.record.proofs.Fields.{Passed, none-passed, shift-small, one-passed, found-here, none-found-here}
+use Rattle.record.proofs.Fields.{as-record}
 use Rattle.record.proofs.Record.too_large.Statement.{statement}
 use Rattle.record.proofs.Record.too_large.Tie as tie
 
@@ -30,10 +31,11 @@ loop-again c = one-passed (c .before .before .loop .inv) (c .if1 .left)
 returns-2 : tie.Need-returns-2 Inv-loop μ-loop
 returns-2 c =
     let fields = c .before .before in
-    as-record (fields .before .args .self) (fields .by-field .ensures) (none-found-here (c .before .loop .inv) (omega arith))
+    as-record (fields .before .args .self) (fields .by-field .ensures)
+    (none-found-here (c .before .loop .inv) (omega arith))
 
 pub too-large-spec : {M : Type 1} → statement M
 too-large-spec =
     tie.close
-    (tie.spec Inv-loop μ-loop (λ c κs. omega arith) loop-holds (λ c. omega arith) (λ c. omega arith) (λ c. omega arith) (λ c. omega arith)
-    shr-if1 (λ c. omega arith) returns (λ c. omega arith) (λ c. omega arith) loop-again returns-2)
+    (tie.spec Inv-loop μ-loop (λ c κs. omega arith) loop-holds (λ c. omega arith) (λ c. omega arith) (λ c. omega arith)
+    (λ c. omega arith) shr-if1 (λ c. omega arith) returns (λ c. omega arith) (λ c. omega arith) loop-again returns-2)
