@@ -20,6 +20,7 @@ use Rattle.codebook.proofs.Sixteen.{wrapped-fits, sum-below, bits-sum}
 pub fifth : (p : ℕ) → p % 5 ≡ 0 → (5 ≡ positionOf p) × ((1 ≤ 5) × (5 ≤ 5))
 fifth p e = (rw (eq-eqb (p % 5) 0 e) refl, (omega arith, omega arith))
 
+-- any other number counts as its remainder
 pub by-remainder : (p : ℕ) → (p % 5 ≡ 0 → ⊥) → (p % 5 ≡ positionOf p) × ((1 ≤ p % 5) × (p % 5 ≤ 5))
 by-remainder p n = (rw (ne-eqb (p % 5) 0 n) refl, (omega arith, omega arith))
 
@@ -27,6 +28,7 @@ by-remainder p n = (rw (ne-eqb (p % 5) 0 n) refl, (omega arith, omega arith))
 pub round : (k : ℕ) → k ≤ 1 → 5 ≡ movedOf k
 round k h = rw (le-leb (k - 1) 0 (omega arith)) refl
 
+-- any other position moves one down
 pub down : (k : ℕ) → 1 < k → k - 1 ≡ movedOf k
 down k h = rw (lt-leb (k - 1) 0 (omega arith)) refl
 

@@ -13,6 +13,7 @@ abbrev pub +1 : ℤ
 abbrev pub -1 : ℤ
 -1 = negsuc 0
 
+-- the elements
 unfoldable pub book : List ℤ
 book =
     +0 ∷ +1 ∷ +0 ∷ +0 ∷ +0 ∷ +1 ∷ +0 ∷ +0 ∷ +0 ∷ +0 ∷ +0 ∷ +0 ∷ +1 ∷ +0 ∷ +1 ∷ +0 ∷ +0 ∷ +0 ∷ +0 ∷ -1 ∷

@@ -25,6 +25,7 @@ leftAfter Code n l = codeOf n
 leftAfter WrongLength n l = l
 leftAfter TooLarge n l = l
 
+-- the same after writing code n into it
 unfoldable pub codeLeft : ℕ → List ℤ → List ℤ
 codeLeft n l = leftAfter (writtenOf n (length l)) n l
 

@@ -22,9 +22,11 @@ use Rattle.delays.proofs.Table.{rank-byte, byte-below, rank-below, byte
 pub base-high : (rank : ℕ) → baseOf rank ≤ 192
 base-high rank = omega arith
 
+-- the window does not start above the rank before
 pub base-low : (rank : ℕ) → baseOf rank ≤ rank
 base-low rank = omega arith
 
+-- and does not end below it
 pub base-near : (rank : ℕ) → rank < 256 → rank - baseOf rank ≤ 63
 base-near rank h = omega arith
 
@@ -32,9 +34,11 @@ base-near rank h = omega arith
 pub base-start : (rank : ℕ) → rank ≤ 31 → baseOf rank ≡ 0
 base-start rank h = omega arith
 
+-- between the two ends it starts 31 ranks below
 pub base-between : (rank : ℕ) → 31 ≤ rank → rank ≤ 223 → baseOf rank + 31 ≡ rank
 base-between rank h l = omega arith
 
+-- from rank 223 on it is the last 64 ranks
 pub base-end : (rank : ℕ) → 223 ≤ rank → baseOf rank ≡ 192
 base-end rank h = omega arith
 
@@ -61,6 +65,7 @@ window-start rank h l =
     let f : afterOf rank 63 ≡ 63 = omega arith in
     (ap twelfthsOf e, ap twelfthsOf f)
 
+-- after 115 samples and more the 64 codes run from 84 to 147 samples
 pub window-end : (rank : ℕ) → rank < 256 → 12 * 115 ≤ twelfthsOf rank
     → (twelfthsOf (afterOf rank 0) ≡ 12 * 84) × (twelfthsOf (afterOf rank 63) ≡ 12 * 147)
 unfolding delays twelfthsOf
@@ -78,6 +83,7 @@ after-in rank step h =
       le-leb (afterOf rank step) (baseOf rank + 63) (omega arith),
     )
 
+-- its distance to the base is the code
 after-back : (rank step : ℕ) → afterOf rank step - baseOf rank ≡ step
 after-back rank step = omega arith
 
@@ -99,12 +105,15 @@ module _ (a b c d : ℕ) where
   abbrev pub firstMeant : ℕ
   firstMeant = twelfthsOf (rankOf a)
 
+  -- the delay of subframe 2, after that of 1
   abbrev pub secondMeant : ℕ
   secondMeant = twelfthsOf (afterOf (rankOf a) b)
 
+  -- the delay of subframe 3
   abbrev pub thirdMeant : ℕ
   thirdMeant = twelfthsOf (rankOf c)
 
+  -- the delay of subframe 4, after that of 3
   abbrev pub fourthMeant : ℕ
   fourthMeant = twelfthsOf (afterOf (rankOf c) d)
 
@@ -176,9 +185,11 @@ codes-back a b c d w x y z e =
 abbrev pub Within : ℕ → Type 0
 Within delay = (240 ≤ delay) × (delay ≤ 1764)
 
+-- the delay of each rank does
 rank-within : (rank : ℕ) → rank < 256 → Within (twelfthsOf rank)
 rank-within rank h = (twelfths-low rank h, twelfths-high rank h)
 
+-- so all four delays of codes that fit do
 pub meant-within : (a b c d w x y z : ℕ) → fourMeant a b c d ≡ Delays w x y z
     → Within w × Within x × Within y × Within z
 meant-within a b c d w x y z e =
@@ -212,6 +223,7 @@ record Pair (w x a b : ℕ) : Type 0 where
   first : twelfthsOf (rankOf a) ≡ w
   next : twelfthsOf (afterOf (rankOf a) b) ≡ x
 
+-- the codes of two listed delays mean those delays
 pair-back : (w x a b : ℕ) → listed w ≡ true → listed x ≡ true → inWindow (rankWith w) (rankWith x) ≡ true
     → printedByte (rankWith w) ≡ a → rankWith x - baseOf (rankWith w) ≡ b → Pair w x a b
 pair-back w x a b lw lx i ea eb =
@@ -233,6 +245,7 @@ pair-back w x a b lw lx i ea eb =
 not-listed : {a b c d : ℕ} (n : ℕ) → NotListed n ≡ Codes a b c d → ⊥
 not-listed n e = let z : _≡_ {A = ℕ} 0 1 = cc in omega arith
 
+-- nor is one for the window
 outside : {a b c d : ℕ} (n : ℕ) → OutsideWindow n ≡ Codes a b c d → ⊥
 outside n e = let z : _≡_ {A = ℕ} 0 1 = cc in omega arith
 
@@ -247,6 +260,7 @@ pair-on n p q rest e =
 
 -- delays to codes to delays: delays that are accepted come back
 module _ (w x y z a b c d : ℕ) where
+  -- the codes that are answered mean the delays that were given
   pub delays-back : codedOf (w ∷ x ∷ y ∷ z ∷ []) ≡ Codes a b c d → meantBy (a ∷ b ∷ c ∷ d ∷ []) ≡ Delays w x y z
   unfolding codedOf meantBy
   delays-back e =

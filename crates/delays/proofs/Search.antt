@@ -20,6 +20,7 @@ evenOf delay =
     (cond (ltb delay 408) (eqb (delay % 3) 0)
     (cond (ltb delay 960) (eqb (delay % 4) 0) (cond (ltb delay 1776) (eqb (delay % 12) 0) false))))
 
+-- every delay of the list is so
 even-twelfths : (rank : ℕ) → rank < 256 → T (evenOf (twelfthsOf rank))
 unfolding delays twelfthsOf evenOf
 even-twelfths rank h = at 0 (λ k x. evenOf x) delays tt rank h
@@ -39,10 +40,12 @@ has delay rank h e = sym (rank-twelfths rank h) ∙ ap rankWith (twelfths-stretc
 
 -- what each way through the search answers
 module _ {delay : ℕ} where
+  -- a delay under 20 samples has no rank
   pub too-short : delay < 240 → 256 ≡ rankWith delay
   unfolding evenOf
   too-short h = unlisted delay (simp (lt-ltb delay 240 h))
 
+  -- a delay of 148 samples or more has none
   pub too-long : 1776 ≤ delay → 256 ≡ rankWith delay
   unfolding evenOf
   too-long l =

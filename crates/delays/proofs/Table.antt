@@ -16,6 +16,7 @@ use Rattle.laws.proofs.Place.{place-entry, place-back}
 use Rattle.laws.proofs.Tabulate.{length-tabulate, getD-tabulate}
 use Rattle.delays.specs.Table.{delays, bytes, twelfthsOf, stretched, printedByte, rankOf, rankWith}
 
+-- there are 256 delays
 pub delays-long : length delays ≡ 256
 unfolding delays
 delays-long = refl
@@ -31,6 +32,7 @@ pub twelfths-low : (rank : ℕ) → rank < 256 → 240 ≤ twelfthsOf rank
 unfolding delays twelfthsOf
 twelfths-low rank h = leb→le 240 (twelfthsOf rank) (at 0 (λ k x. leb 240 x) delays tt rank h)
 
+-- no delay is longer than 147 samples
 pub twelfths-high : (rank : ℕ) → rank < 256 → twelfthsOf rank ≤ 1764
 unfolding delays twelfthsOf
 twelfths-high rank h = leb→le (twelfthsOf rank) 1764 (at 0 (λ k x. leb x 1764) delays tt rank h)
@@ -105,20 +107,24 @@ ranks-test : T (every (λ b r. both (leb (suc r) 256) (eqb (printedByte r) b)) 0
 unfolding bytes printedByte ranks
 ranks-test = tt
 
+-- there are 256 ranks by byte
 ranks-long : length ranks ≡ 256
 unfolding ranks
 ranks-long = refl
 
 module _ (byte : ℕ) (h : byte < 256) where
+  -- what the test says of one byte
   ranks-at : T (both (leb (suc (getD ranks byte 0)) 256) (eqb (printedByte (getD ranks byte 0)) byte))
   ranks-at =
       at 0 (λ b r. both (leb (suc r) 256) (eqb (printedByte r) b)) ranks ranks-test byte (omega (arith, ranks-long))
 
+  -- its entry is one of the 256 ranks
   ranks-below : getD ranks byte 0 < 256
   ranks-below =
       leb→le (suc (getD ranks byte 0)) 256
       (both-left (leb (suc (getD ranks byte 0)) 256) (eqb (printedByte (getD ranks byte 0)) byte) ranks-at)
 
+  -- and the byte printed for that rank is the byte
   ranks-byte : printedByte (getD ranks byte 0) ≡ byte
   ranks-byte =
       eqb→eq (printedByte (getD ranks byte 0)) byte
@@ -131,6 +137,7 @@ rank-byte rank h =
     place-back (λ (b : ℕ). getD ranks b 0) bytes
     (λ k l. eqb→eq (getD ranks (printedByte k) 0) k (at 0 (λ i x. eqb (getD ranks x 0) i) bytes tt k l)) rank h
 
+-- each printed code is a byte
 pub byte-below : (rank : ℕ) → rank < 256 → printedByte rank < 256
 unfolding bytes printedByte
 byte-below rank h = leb→le (suc (printedByte rank)) 256 (at 0 (λ k x. leb (suc x) 256) bytes tt rank h)
@@ -143,6 +150,7 @@ ranks-rank byte h = sym (rank-byte (getD ranks byte 0) (ranks-below byte h)) ∙
 pub rank-below : (byte : ℕ) → byte < 256 → rankOf byte < 256
 rank-below byte h = rw (sym (ranks-rank byte h)) (ranks-below byte h)
 
+-- and the byte of its rank is the byte itself
 pub byte-rank : (byte : ℕ) → byte < 256 → printedByte (rankOf byte) ≡ byte
 byte-rank byte h = ap printedByte (sym (ranks-rank byte h)) ∙ ranks-byte byte h
 

@@ -78,6 +78,7 @@ abbrev pub meantRefusal : Meant → ℕ
 meantRefusal (Delays a b c d) = 0
 meantRefusal (TooLarge subframe) = 2
 
+-- field 10 + 4(n-1) + 1 for subframe n
 abbrev pub meantTells : Meant → List ℕ
 meantTells (Delays a b c d) = []
 meantTells (TooLarge subframe) = (10 + 4 * (subframe - 1) + 1) ∷ []

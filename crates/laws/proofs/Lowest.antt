@@ -24,6 +24,7 @@ module _ (t : ℕ → Bool) where
       (subst (λ (m : ℕ). t m ≡ true) (omega arith) here)
       ∙ omega arith)
 
+  -- the test fails at all of the k numbers from i on
   from-none : (k i : ℕ) → ((m : ℕ) → i ≤ m → m < i + k → t m ≡ false) → lowestFrom t i k ≡ 0
   unfolding lowestFrom
   from-none zero i none = refl
@@ -42,6 +43,7 @@ module _ (t : ℕ → Bool) where
   pub lowest-none : (n : ℕ) → ((m : ℕ) → 1 ≤ m → m ≤ n → t m ≡ false) → lowest t n ≡ 0
   lowest-none n none = from-none n 1 (λ m a b. none m a (omega arith))
 
+  -- what the test at i makes of the answer
   from-step : (k i : ℕ) (b : Bool) → t i ≡ b → lowestFrom t i (suc k) ≡ cond b i (lowestFrom t (suc i) k)
   unfolding lowestFrom
   from-step k i b q = ap (λ (x : Bool). cond x i (lowestFrom t (suc i) k)) q
@@ -50,9 +52,11 @@ module _ (t : ℕ → Bool) where
   abbrev Nowhere : ℕ → ℕ → Type 0
   Nowhere k i = lowestFrom t i k ≡ 0 → (m : ℕ) → i ≤ m → m < i + k → t m ≡ false
 
+  -- j is the first of them at which it holds
   abbrev First : ℕ → ℕ → ℕ → Type 0
   First k i j = (i ≤ j) × (j < i + k) × (t j ≡ true) × ((m : ℕ) → i ≤ m → m < j → t m ≡ false)
 
+  -- an answer of 0 says that it fails at all of them
   from-zero : (k i : ℕ) → 1 ≤ i → Nowhere k i
   from-zero zero i p e m a b = absurd (omega arith)
   from-zero (suc k) i p e m a b = here (from-zero k (suc i) (omega arith)) (t i) refl (ℕ-discrete m i)
@@ -62,6 +66,7 @@ module _ (t : ℕ → Bool) where
       here rest false q (yes w) = ap t w ∙ q
       here rest false q (no w) = rest (sym (from-step k i false q) ∙ e) m (omega arith) (omega arith)
 
+  -- any other answer is the first at which it holds
   from-found : (k i j : ℕ) → lowestFrom t i k ≡ j → 1 ≤ j → First k i j
   from-found zero i j e q =
       absurd (let z : 0 ≡ j = sym (from-none zero i (λ m a b. absurd (omega arith))) ∙ e in omega arith)
@@ -95,9 +100,11 @@ module _ (t : ℕ → Bool) where
   pub record NoneUpTo (i : ℕ) : Type 0 where
     pub none : (m : ℕ) → 1 ≤ m → m ≤ i → t m ≡ false
 
+  -- at no number yet
   pub none-yet : NoneUpTo 0
   none-yet = record { none = λ m a b. absurd (omega arith) }
 
+  -- it fails at one number more
   pub none-more : {i : ℕ} → NoneUpTo i → t (i + 1) ≡ false → NoneUpTo (i + 1)
   none-more {i} p e = record { none = λ m a b. at m a b (ℕ-discrete m (i + 1)) }
     where
@@ -105,14 +112,17 @@ module _ (t : ℕ → Bool) where
       at m a b (yes w) = ap t w ∙ e
       at m a b (no w) = p .none m a (omega arith)
 
+  -- it holds at the next one: that is the lowest
   pub none-found : (n : ℕ) {i : ℕ} → NoneUpTo i → i < n → t (i + 1) ≡ true → i + 1 ≡ lowest t n
   none-found n {i} p h e = sym (lowest-at n (i + 1) (omega arith) (omega arith) (λ m a b. p .none m a (omega arith)) e)
 
+  -- it has failed at all of them
   pub none-at-all : (n : ℕ) {i : ℕ} → NoneUpTo i → n ≤ i → 0 ≡ lowest t n
   none-at-all n {i} p h = sym (lowest-none n (λ m a b. p .none m a (omega arith)))
 
 -- two tests that agree at 1 to n have the same lowest number
 module _ (t u : ℕ → Bool) where
+  -- so from i on
   from-same : (k i : ℕ) → ((m : ℕ) → i ≤ m → m < i + k → t m ≡ u m) → lowestFrom t i k ≡ lowestFrom u i k
   unfolding lowestFrom
   from-same zero i same = refl
@@ -120,5 +130,6 @@ module _ (t u : ℕ → Bool) where
       let here : t i ≡ u i = same i (omega arith) (omega arith) in
       rw (here, from-same k (suc i) (λ m a b. same m (omega arith) (omega arith)))
 
+  -- and of 1 to n
   pub lowest-same : (n : ℕ) → ((m : ℕ) → 1 ≤ m → m ≤ n → t m ≡ u m) → lowest t n ≡ lowest u n
   lowest-same n same = from-same n 1 (λ m a b. same m a (omega arith))

@@ -31,6 +31,7 @@ pub mark-in-order : (hz : List ℕ) → markOf hz ≡ 0 → InOrder hz
 unfolding markOf
 mark-in-order hz e j a b = ltb-false _ _ (lowest-zero (falls hz) 9 e j a b)
 
+-- parameters in order have the mark 0
 pub in-order-mark : (hz : List ℕ) → InOrder hz → markOf hz ≡ 0
 unfolding markOf
 in-order-mark hz o = lowest-none (falls hz) 9 (λ j a b. le-ltb _ _ (o j a b))
@@ -43,11 +44,13 @@ mark-falls hz j e q =
     let r = lowest-found (falls hz) 9 j e q in
     (r .0, ltb-true _ _ (r .1), λ m a b. ltb-false _ _ (r .2 m a b))
 
+-- the lowest j at which the parameters fall is the mark
 pub falls-mark : (hz : List ℕ) (j : ℕ) → 1 ≤ j → j ≤ 9 → lsp hz (j + 1) < lsp hz j
     → ((m : ℕ) → 1 ≤ m → m < j → lsp hz m ≤ lsp hz (m + 1)) → markOf hz ≡ j
 unfolding markOf
 falls-mark hz j a b f none = lowest-at (falls hz) 9 j a b (λ m p q. le-ltb _ _ (none m p q)) (lt-ltb _ _ f)
 
+-- no mark is over 9
 pub mark-most : (hz : List ℕ) → markOf hz ≤ 9
 mark-most hz = go (decLt 0 (markOf hz))
   where
@@ -64,6 +67,7 @@ average-least n a b p q =
     let r : min a b ≤ b = min-le-right a b in
     of-four (λ m. 8 * min a b ≤ averageOf m a b) n p q (omega arith) (omega arith) (omega arith) (omega arith)
 
+-- no average is above eight times the larger value
 pub average-most : (n a b : ℕ) → 1 ≤ n → n ≤ 4 → averageOf n a b ≤ 8 * max a b
 average-most n a b p q =
     let l : a ≤ max a b = le-max-left a b in
@@ -81,6 +85,7 @@ average-rises n a b c d p q h g =
     of-four (λ m. averageOf m a b ≤ averageOf m c d) n p q (omega arith) (omega arith) (omega arith) (omega arith)
 
 module _ (previous present : List ℕ) where
+  -- there are forty averages
   pub averages-long : length (averagesOf previous present) ≡ 40
   unfolding averagesOf
   averages-long = length-tabulate (eighths previous present) 40
@@ -127,6 +132,7 @@ within k x = both (leb 100 x) (leb x 3830)
 abbrev below-next : List ℕ → ℕ → ℕ → Bool
 below-next c k x = cond (ltb (k + 1) (length c)) (ltb x (getD c (k + 1) 0)) true
 
+-- what that test says
 next-above : (c : List ℕ) (k : ℕ) → T (below-next c k (getD c k 0)) → k + 1 < length c → getD c k 0 < getD c (k + 1) 0
 next-above c k t h =
     let e : ltb (k + 1) (length c) ≡ true = lt-ltb (k + 1) (length c) h in
@@ -166,6 +172,7 @@ module _ (indices : List ℕ) where
   unfolding tooLarge
   none-too-large e j a b = leb-false _ _ (lowest-zero (overIn indices) 10 e j a b)
 
+  -- where every index fits the answer is 0
   pub all-fit : Fit → tooLarge indices ≡ 0
   unfolding tooLarge
   all-fit f = lowest-none (overIn indices) 10 (λ j a b. lt-leb _ _ (f j a b))
@@ -178,6 +185,7 @@ module _ (indices : List ℕ) where
       let f = lowest-found (overIn indices) 10 j e a in
       (f .0, leb-true _ _ (f .1), λ m b c. leb-false _ _ (f .2 m b c))
 
+  -- the lowest LSP whose index does not fit is the answer
   pub too-large-at : (j : ℕ) → 1 ≤ j → j ≤ 10 → 2 ^ lsp bits j ≤ lsp indices j
       → ((m : ℕ) → 1 ≤ m → m < j → lsp indices m < 2 ^ lsp bits m) → tooLarge indices ≡ j
   unfolding tooLarge

@@ -32,6 +32,7 @@ module _ (previous present : List ℕ) where
     pub upto : i ≤ 10
     pub placed : Placed 0 eighths 40 (Done i) l
 
+  -- before the first turn no parameter is done
   pub none-averaged : (l : List ℕ) → length l ≡ 40 → Averaged 0 l
   none-averaged l e = record { upto = omega arith; placed = placed-none (Done 0) l e (λ k h. omega arith) }
 
@@ -70,6 +71,7 @@ module _ (previous present : List ℕ) where
             (ℕ-discrete k (30 + i)));
       }
 
+  -- after ten the forty averages stand
   pub all-averaged : {i : ℕ} {l : List ℕ} → Averaged i l → 10 ≤ i → l ≡ averagesOf previous present
   unfolding averagesOf
   all-averaged {i} s h = placed-all (s .placed) (λ k g. (g, omega (arith, s .upto)))

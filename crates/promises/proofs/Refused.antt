@@ -157,6 +157,7 @@ hearing-gives : (r : Record) → HearingGives r (outcomeOf r)
 hearing-gives r =
     by-outcome r (HearingGives r) (λ z s. (none-too-large r z, s)) (λ h. lowest-large r (λ z. omega arith)) (λ z s. (none-too-large r z, s))
 
+-- and no outcome is answered whose condition is not met
 hearing-only : (r : Record) (o : Outcome) → HearingGives r o → outcomeOf r ≡ o
 hearing-only r (TooLarge f) l =
     let e = large-is r f l in
@@ -181,12 +182,15 @@ nothing-stays before = (nothing-outcome before, nothing-state before)
 
 -- ten LSP indices in Hz: the bits of each are the width of its field
 module _ (indices : List ℕ) where
+  -- none is refused where every index fits its field
   all-within : hertz.tooLarge indices ≡ 0 → AllWithin indices
   all-within z j a b = rw (sym (bits-are-widths (j - 1) (omega arith))) (lsps.none-too-large indices z j a b)
 
+  -- and the other way round
   within-none : AllWithin indices → hertz.tooLarge indices ≡ 0
   within-none w = lsps.all-fit indices (λ j a b. rw (bits-are-widths (j - 1) (omega arith)) (w j a b))
 
+  -- what is told is the lowest that does not fit
   lowest-over : (hertz.tooLarge indices ≡ 0 → ⊥) → LowestOver indices (hertz.tooLarge indices)
   lowest-over w =
       let one : 1 ≤ hertz.tooLarge indices = omega (arith, w) in
@@ -199,6 +203,7 @@ module _ (indices : List ℕ) where
         lower = λ m a b. rw (sym (bits-are-widths (m - 1) (omega arith))) (l .2 m a b);
       }
 
+  -- and the lowest that does not fit is told
   over-is : (j : ℕ) → LowestOver indices j → hertz.tooLarge indices ≡ j
   over-is j l =
       let one = l .from in
@@ -206,6 +211,7 @@ module _ (indices : List ℕ) where
       lsps.too-large-at indices j one ten (rw (bits-are-widths (j - 1) (omega arith)) (l .here))
       (λ m a b. rw (bits-are-widths (m - 1) (omega arith)) (l .lower m a b))
 
+  -- the verdict meets its own condition
   hertz-gives : HertzGives indices (hertzOf indices .verdict)
   hertz-gives = fitting (ℕ-discrete (hertz.tooLarge indices) 0)
     where
@@ -214,6 +220,7 @@ module _ (indices : List ℕ) where
       fitting (no w) =
           subst (λ (h : Hertz). HertzGives indices (h .verdict)) (sym (lsps.hertz-refused indices (omega (arith, w)))) (lowest-over w)
 
+  -- and no other verdict's is met
   hertz-only : (v : lsp-verdict.Verdict) → HertzGives indices v → hertzOf indices .verdict ≡ v
   hertz-only Lsp.Within w = ap (λ (h : Hertz). h .verdict) (lsps.hertz-given indices (within-none w))
   hertz-only (Lsp.TooLarge j) l =
@@ -227,24 +234,29 @@ hertz-refuses indices v = (λ e. subst (HertzGives indices) e (hertz-gives indic
 
 -- four codes
 module _ (a b c d : ℕ) where
+  -- as a list
   abbrev codes-given : List ℕ
   codes-given = a ∷ b ∷ c ∷ d ∷ []
 
+  -- the first code that is too large is told
   large-only : {n : ℕ} → FirstTooLarge a b c d n → meantBy codes-given ≡ Meant.TooLarge n
   large-only (first-large h) = sym (codes.first-large codes-given h)
   large-only (second-large e h) = sym (codes.second-large codes-given e h)
   large-only (third-large e f h) = sym (codes.third-large codes-given e f h)
   large-only (fourth-large e f g h) = sym (codes.fourth-large codes-given e f g h)
 
+  -- codes up to 255 and 63 fit eight and six bits
   fit-of : a ≤ 255 → b ≤ 63 → c ≤ 255 → d ≤ 63 → Fit a b c d
   fit-of e f g h = record { first = omega arith; second = omega arith; third = omega arith; fourth = omega arith }
 
+  -- codes that fit mean what the definition says
   means-only : {w x y z : ℕ} → Means a b c d w x y z → meantBy codes-given ≡ Meant.Delays w x y z
   unfolding meantBy
   means-only m =
       fit-meant a b c d (fit-of (m .byte) (m .step) (m .next-byte) (m .next-step))
       ∙ rw (m .first, m .second, m .third, m .fourth) refl
 
+  -- the meaning meets its own condition
   meaning-gives : MeaningGives a b c d (meantBy codes-given)
   meaning-gives = one (decLe a 255)
     where
@@ -270,6 +282,7 @@ module _ (a b c d : ℕ) where
       one (no e) = told (first-large (omega (arith, e)))
       one (yes e) = two e (decLe b 63)
 
+  -- and no other's is met
   meaning-only : (m : Meant) → MeaningGives a b c d m → meantBy codes-given ≡ m
   meaning-only (Meant.TooLarge n) l = large-only l
   meaning-only (Meant.Delays w x y z) m = means-only m
@@ -284,17 +297,20 @@ listed-yes delay e =
     let h : rankWith delay < 256 = ltb-true (rankWith delay) 256 e in
     (rankWith delay, h, twelfths-rank delay h)
 
+-- a delay that is the twelfths of some rank passes the test
 listed-test : (delay : ℕ) → Listed delay → listed delay ≡ true
 listed-test delay (rank, h, e) =
     let same : rankWith delay ≡ rank = ap rankWith (sym e) ∙ rank-twelfths rank h in
     lt-ltb (rankWith delay) 256 (omega (arith, same, h))
 
+-- one that fails it is of none
 listed-no : (delay : ℕ) → listed delay ≡ false → Listed delay → ⊥
 listed-no delay e l =
     let h = ltb-false (rankWith delay) 256 e in
     let g = ltb-true (rankWith delay) 256 (listed-test delay l) in
     omega (arith, h, g)
 
+-- and one of none fails it
 unlisted-test : (delay : ℕ) → (Listed delay → ⊥) → listed delay ≡ false
 unlisted-test delay w = go (listed delay) refl
   where
@@ -304,19 +320,23 @@ unlisted-test delay w = go (listed delay) refl
 
 -- the second is in the window of the first
 module _ (a b : ℕ) (second : Listed b) where
+  -- a rank in the window is meant by some six-bit code
   follows-yes : inWindow (rankWith a) (rankWith b) ≡ true → Follows a b
   follows-yes e =
       let s = window-step (rankWith a) (rankWith b) e in
       (rankWith b - baseOf (rankWith a), s .0, ap twelfthsOf (s .1) ∙ twelfths-rank b (ltb-true (rankWith b) 256 (listed-test b second)))
 
+  -- and a delay that some six-bit code means is in the window
   follows-test : Follows a b → inWindow (rankWith a) (rankWith b) ≡ true
   follows-test (step, h, e) =
       ap (inWindow (rankWith a)) (ap rankWith (sym e) ∙ rank-twelfths (afterOf (rankWith a) step) (after-below (rankWith a) step h))
       ∙ after-in (rankWith a) step h
 
+  -- outside the window no code means it
   follows-no : inWindow (rankWith a) (rankWith b) ≡ false → Follows a b → ⊥
   follows-no e f = true≢false (sym (follows-test f) ∙ e)
 
+  -- and where none does it is outside
   outside-test : (Follows a b → ⊥) → inWindow (rankWith a) (rankWith b) ≡ false
   outside-test w = go (inWindow (rankWith a) (rankWith b)) refl
     where
@@ -326,6 +346,7 @@ module _ (a b : ℕ) (second : Listed b) where
 
 -- four delays
 module _ (a b c d : ℕ) where
+  -- as a list
   abbrev delays-given : List ℕ
   delays-given = a ∷ b ∷ c ∷ d ∷ []
 
@@ -334,10 +355,12 @@ module _ (a b c d : ℕ) where
   unfolding codedOf
   refused-first e = rw e
 
+  -- the second is not listed
   refused-second : listed a ≡ true → listed b ≡ false → codedOf delays-given ≡ NotListed 2
   unfolding codedOf
   refused-second e f = rw (e, f)
 
+  -- the second is outside the window of the first
   outside-second : listed a ≡ true → listed b ≡ true → inWindow (rankWith a) (rankWith b) ≡ false → codedOf delays-given ≡ OutsideWindow 2
   unfolding codedOf
   outside-second e f g = rw (e, f, g)
@@ -360,6 +383,7 @@ module _ (a b c d : ℕ) where
     unfolding codedOf
     all-sent e f g = rw (one, two, near, e, f, g)
 
+  -- the condition of an answer to these four
   abbrev Given : Coded → Type 0
   Given x = CodingGives a b c d x
 
@@ -401,6 +425,7 @@ module _ (a b c d : ℕ) where
       first false e = subst Given (sym (refused-first e)) (first-unlisted (listed-no a e))
       first true e = second e (listed b) refl
 
+  -- where a delay is the first that is not listed it is refused with 4
   not-listed-only : {n : ℕ} → FirstNotListed a b c d n → codedOf delays-given ≡ NotListed n
   not-listed-only (first-unlisted w) = refused-first (unlisted-test a w)
   not-listed-only (second-unlisted p w) = refused-second (listed-test a p) (unlisted-test b w)
@@ -408,11 +433,13 @@ module _ (a b c d : ℕ) where
   not-listed-only (fourth-unlisted p q f s w) =
       refused-fourth (listed-test a p) (listed-test b q) (follows-test a b q f) (listed-test c s) (unlisted-test d w)
 
+  -- where one is the first outside its window it is refused with 5
   outside-only : {n : ℕ} → FirstOutside a b c d n → codedOf delays-given ≡ OutsideWindow n
   outside-only (second-outside p q w) = outside-second (listed-test a p) (listed-test b q) (outside-test a b q w)
   outside-only (fourth-outside p q f s t w) =
       outside-fourth (listed-test a p) (listed-test b q) (follows-test a b q f) (listed-test c s) (listed-test d t) (outside-test c d t w)
 
+  -- so no answer is given whose condition is not met
   coding-only : (x : Coded) → CodingGives a b c d x → codedOf delays-given ≡ x
   coding-only (NotListed n) g = not-listed-only g
   coding-only (OutsideWindow n) g = outside-only g
@@ -434,6 +461,7 @@ code-gives index n = sized (ℕ-discrete n 60)
     sized (yes e) = indexed e (decLe index 511)
     sized (no w) = rw (ne-eqb n 60 w) w
 
+-- no answer is given whose condition is not met
 code-only : (index n : ℕ) (a : code-written.Written) → CodeGives index n a → code.writtenOf index n ≡ a
 code-only index n Code.WrongLength w = rw (ne-eqb n 60 w)
 code-only index n Code.TooLarge (e, h) = rw (eq-eqb n 60 e, lt-leb index 511 h)
@@ -443,6 +471,7 @@ pub code-refuses : CodeRefuses
 unfolding CodeRefuses
 code-refuses index n a = (λ e. subst (CodeGives index n) e (code-gives index n), code-only index n a)
 
+-- a refusal leaves what the buffer held
 code-left : (a : code-written.Written) (index : ℕ) (l : List ℤ) → (code.refusalOf a ≡ 0 → ⊥) → code.leftAfter a index l ≡ l
 code-left Code.Code index l w = absurd (w refl)
 code-left Code.WrongLength index l w = refl

@@ -67,12 +67,15 @@ fixed-windows rank h = (window-start rank h, window-end rank h)
 
 -- a record whose values tell that it was heard
 module _ (r : Record) (before : State) (told : valuesOf r before .outcome ≡ Heard) where
+  -- its outcome is that it is heard
   heard : outcomeOf r ≡ Heard
   heard = sym (values-outcome r before) ∙ told
 
+  -- so every index fits its field
   fits : tooLarge r ≡ 0
   fits = heard-fits r heard .0
 
+  -- and its gains are those of its indices
   in-subframe : (n : ℕ) → 1 ≤ n → n ≤ 4 → Subframe r before n
   in-subframe n a b =
       record {

@@ -20,14 +20,17 @@ module _ (r : Record) where
   abbrev pub Fit : Type 0
   Fit = (i : ℕ) → 1 ≤ i → i ≤ 28 → indexOf r i < 2 ^ widthOf i
 
+  -- an answer of 0 says that every index fits
   pub none-too-large : tooLarge r ≡ 0 → Fit
   unfolding tooLarge
   none-too-large e i a b = leb-false (2 ^ widthOf i) (indexOf r i) (lowest-zero (over r) 28 e i a b)
 
+  -- and where every index fits the answer is 0
   pub all-fit-none-too-large : Fit → tooLarge r ≡ 0
   unfolding tooLarge
   all-fit-none-too-large f = lowest-none (over r) 28 (λ i a b. lt-leb (2 ^ widthOf i) (indexOf r i) (f i a b))
 
+  -- any other answer is a field whose index does not fit, and every lower one does
   pub lowest-too-large : (j : ℕ) → tooLarge r ≡ j → 1 ≤ j
       → (j ≤ 28) × (2 ^ widthOf j ≤ indexOf r j) × ((i : ℕ) → 1 ≤ i → i < j → indexOf r i < 2 ^ widthOf i)
   unfolding tooLarge
@@ -38,6 +41,7 @@ module _ (r : Record) where
         λ i b c. leb-false (2 ^ widthOf i) (indexOf r i) (f .2 i b c),
       )
 
+  -- and such a field is the answer
   pub too-large-at : (j : ℕ) → 1 ≤ j → j ≤ 28 → 2 ^ widthOf j ≤ indexOf r j
       → ((i : ℕ) → 1 ≤ i → i < j → indexOf r i < 2 ^ widthOf i) → tooLarge r ≡ j
   unfolding tooLarge
@@ -49,6 +53,7 @@ module _ (r : Record) where
   pub index-parameter : (k : ℕ) → k < 10 → indexOf r (k + 1) ≡ getD (r .lsp) k 0
   index-parameter k h = rw (le-leb (k + 1) 10 (omega arith)) (ap (λ (n : ℕ). getD (r .lsp) n 0) (add-sub-cancel k 1))
 
+  -- the sixteen subframe indices stand in fields 11 to 26
   pub index-subframe : (k : ℕ) → k < 16 → indexOf r (k + 11) ≡ getD (r .subframes) k 0
   index-subframe k h =
       rw (lt-leb (k + 11) 10 (omega arith), le-leb (k + 11) 26 (omega arith))
@@ -58,6 +63,7 @@ module _ (r : Record) where
 abbrev pub given : (ℕ → ℕ) → Record
 given v = record { lsp = tabulate (λ k. v (k + 1)) 10; subframes = tabulate (λ k. v (k + 11)) 16; sp = v 27; sy = v 28 }
 
+-- field f of it holds v f
 pub index-given : (v : ℕ → ℕ) (f : ℕ) → 1 ≤ f → f ≤ 28 → indexOf (given v) f ≡ v f
 index-given v f a b = parameter (decLe f 10)
   where

@@ -45,6 +45,7 @@ four p q r s = λ i. p i ∷ q i ∷ r i ∷ s i ∷ []
 
 -- the values of a record that is heard, put together from each step's answer
 module _ (r : Record) (before : State) where
+  -- the record of the steps' answers is the definition's
   pub heard-whole : {state : State} {cg pg : List ℤ} {delays averages previous : List ℕ} {hertz : Hertz} {mark : ℕ}
       → cg ≡ gainsOf cgTable (inSubframes (cgIndex r)) → pg ≡ gainsOf pgTable (inSubframes (pgIndex r))
       → delays ≡ delaysOf r
@@ -76,6 +77,7 @@ module _ (r : Record) (before : State) where
       e ∙ ap (λ (f : ℕ). refusedValues (TooLarge f) before) is ∙ ap (λ (p : Outcome). refusedValues p before) (sym o)
       ∙ sym (values-refused r before (λ h. too-large-not-heard _ (sym o ∙ h)))
 
+  -- a record whose SP is set gets refusal 6
   pub expansion-told : {field : ℕ} {v : Values} → field ≡ tooLarge r → field ≡ 0 → (r .sp ≡ 0 → ⊥)
       → v ≡ refusedValues Expansion before → v ≡ valuesOf r before
   expansion-told is z w e =

@@ -47,15 +47,19 @@ use Rattle.values.specs.Values.{valuesOf}
 pub too-large-not-heard : (field : ℕ) → TooLarge field ≡ Heard → ⊥
 too-large-not-heard field e = let z : _≡_ {A = ℕ} 0 1 = cc in omega arith
 
+-- refusal 6 is not heard
 pub expansion-not-heard : Expansion ≡ Heard → ⊥
 expansion-not-heard e = let z : _≡_ {A = ℕ} 0 1 = cc in omega arith
 
+-- refusal 6 is not refusal 2
 expansion-not-too-large : (field : ℕ) → Expansion ≡ TooLarge field → ⊥
 expansion-not-too-large field e = let z : _≡_ {A = ℕ} 0 1 = cc in omega arith
 
+-- no record is not one that is heard
 pub nothing-not-heard : Nothing ≡ Heard → ⊥
 nothing-not-heard e = let z : _≡_ {A = ℕ} 0 1 = cc in omega arith
 
+-- refusal 2 tells one field
 same-field : (f g : ℕ) → TooLarge f ≡ TooLarge g → f ≡ g
 same-field f g e = cc
 
@@ -70,9 +74,11 @@ module _ (r : Record) where
   unfolding outcomeOf
   outcome-set z w = rw (eq-eqb (tooLarge r) 0 z, ne-eqb (r .sp) 0 w)
 
+  -- so SP 1 is refusal 6
   pub outcome-expansion : tooLarge r ≡ 0 → r .sp ≡ 1 → outcomeOf r ≡ Expansion
   outcome-expansion z e = outcome-set z (λ o. omega arith)
 
+  -- and a record with SP 0 is heard
   pub outcome-heard : tooLarge r ≡ 0 → r .sp ≡ 0 → outcomeOf r ≡ Heard
   unfolding outcomeOf
   outcome-heard z e = rw (eq-eqb (tooLarge r) 0 z, eq-eqb (r .sp) 0 e)
@@ -148,6 +154,7 @@ pub nothing-state : (before : State) → nothingHeard before .state ≡ before
 unfolding nothingHeard refusedValues
 nothing-state before = refl
 
+-- where there is no record the outcome says so
 pub nothing-outcome : (before : State) → nothingHeard before .outcome ≡ Nothing
 unfolding nothingHeard refusedValues
 nothing-outcome before = refl
@@ -155,6 +162,7 @@ nothing-outcome before = refl
 -- ---- a record that is heard
 
 module _ (r : Record) (before : State) (heard : outcomeOf r ≡ Heard) where
+  -- its values are those of the definition
   pub values-heard : valuesOf r before ≡ heardValues r before
   unfolding valuesOf
   values-heard = rw heard
@@ -164,6 +172,7 @@ module _ (r : Record) (before : State) (heard : outcomeOf r ≡ Heard) where
   unfolding heardValues
   heard-cg = ap (λ (v : Values). v .cg) values-heard
 
+  -- the PG of its indices
   pub heard-pg : valuesOf r before .pg ≡ inSubframes (λ n. valueIn (gainOf pgTable (pgIndex r n)))
   unfolding heardValues
   heard-pg = ap (λ (v : Values). v .pg) values-heard
@@ -188,9 +197,11 @@ module _ (r : Record) (before : State) (heard : outcomeOf r ≡ Heard) where
   unfolding heardValues
   heard-state = ap (λ (v : Values). v .state) values-heard
 
+  -- after it a frame was heard
   pub heard-begun : valuesOf r before .state .begun ≡ true
   heard-begun = ap (λ (t : State). t .begun) heard-state
 
+  -- and its LSPs are kept
   pub heard-hz : valuesOf r before .state .hz ≡ usedOf r before
   heard-hz = ap (λ (t : State). t .hz) heard-state
 
@@ -221,6 +232,7 @@ module _ (r : Record) (before : State) (heard : outcomeOf r ≡ Heard) (n j : �
   abbrev averaged : ℕ
   averaged = getD (valuesOf r before .averages) (10 * (n - 1) + (j - 1)) 0
 
+  -- it is an average of what stands for the previous values
   averages-with : (previous : List ℕ) → previousOf before (usedOf r before) ≡ previous
       → averaged ≡ getD (averagesOf previous (usedOf r before)) (10 * (n - 1) + (j - 1)) 0
   averages-with previous e =
@@ -252,6 +264,7 @@ module _ (r : Record) (fits : tooLarge r ≡ 0) where
       let h : indexOf r j < 2 ^ widthOf j = none-too-large r fits j a (omega arith) in
       rw (bits-are-widths (j - 1) (omega arith)) (rw (le-leb j 10 b) at h)
 
+  -- so none of its LSPs is refused
   pub lsps-fit : hertz.tooLarge (r .lsp) ≡ 0
   lsps-fit = all-fit (r .lsp) lsp-fits
 
@@ -266,6 +279,7 @@ module _ (r : Record) (fits : tooLarge r ≡ 0) where
       (none-too-large r fits 18 (omega arith) (omega arith)) (none-too-large r fits 22 (omega arith) (omega arith))
       (none-too-large r fits 26 (omega arith) (omega arith))
 
+  -- each PG index has an entry
   pub pg-index-small : (n : ℕ) → 1 ≤ n → n ≤ 4 → pgIndex r n < 32
   pg-index-small n a b =
       of-four (λ m. pgIndex r m < 32) n a b (none-too-large r fits 12 (omega arith) (omega arith))
@@ -308,6 +322,7 @@ module _ (r : Record) (before : State) (heard : outcomeOf r ≡ Heard) (n : ℕ)
   cg-given =
       given-in cgTable (cgIndex r) (heard-cg r before heard) n a b (cg-index-small r (heard-fits r heard .0) n a b)
 
+  -- so are the PG
   pub pg-given : gainOf pgTable (pgIndex r n) ≡ Gain.Value (getD (valuesOf r before .pg) (n - 1) (pos 0))
   pg-given =
       given-in pgTable (pgIndex r) (heard-pg r before heard) n a b (pg-index-small r (heard-fits r heard .0) n a b)
@@ -345,6 +360,7 @@ module _ (r : Record) (before : State) where
       four-in (Meant.Delays a b c d) = refl
       four-in (Meant.TooLarge n) = refl
 
+  -- none of the four is over 147 samples
   pub delays-most : (k : ℕ) → k < 4 → getD (valuesOf r before .delays) k 0 ≤ 1764
   unfolding heardValues refusedValues delaysOf meantBy
   delays-most k h =

@@ -29,9 +29,11 @@ use Rattle.values.specs.Outcome.{outcomeOf, isHeard}
 abbrev pub pdIndex : Record → ℕ → ℕ
 pdIndex r n = indexOf r (10 + 4 * (n - 1) + 1)
 
+-- the PG index of subframe n
 abbrev pub pgIndex : Record → ℕ → ℕ
 pgIndex r n = indexOf r (10 + 4 * (n - 1) + 2)
 
+-- the CG index of subframe n
 abbrev pub cgIndex : Record → ℕ → ℕ
 cgIndex r n = indexOf r (10 + 4 * (n - 1) + 4)
 
@@ -48,6 +50,7 @@ abbrev pub valueIn : Gain → ℤ
 valueIn (Gain.Value v) = v
 valueIn Gain.TooLarge = pos 0
 
+-- four gains, one for each subframe
 abbrev pub gainsOf : List ℤ → List ℕ → List ℤ
 gainsOf table indices = inSubframes (λ n. valueIn (gainOf table (getD indices (n - 1) 0)))
 
@@ -56,6 +59,7 @@ abbrev pub delaysIn : Meant → List ℕ
 delaysIn (Meant.Delays a b c d) = a ∷ b ∷ c ∷ d ∷ []
 delaysIn (Meant.TooLarge subframe) = 0 ∷ 0 ∷ 0 ∷ 0 ∷ []
 
+-- the delays that the four PD of a record mean
 unfoldable pub delaysOf : Record → List ℕ
 delaysOf r = delaysIn (meantBy (inSubframes (pdIndex r)))
 
