@@ -1,6 +1,6 @@
 -- `delays::coded_pair` meets its contract: each test decides one of its cases.
 -- Assumes nothing.
-use borrow.Author.Needs.{needs}
+use native.Mathlib.Omega.{arith}
 use Rattle.delays.proofs.Pairs.{first-unlisted, second-unlisted, below-window, above-window, inside-window}
 use Rattle.delays.proofs.coded_pair.Statement.{statement}
 use Rattle.delays.proofs.coded_pair.Tie as tie
@@ -42,5 +42,5 @@ returns-5 c =
 pub coded-pair-spec : {M : Type 1} → statement M
 coded-pair-spec =
     tie.close
-    (tie.spec (λ c κs. search needs) returns (λ c κs. search needs) returns-2 (λ c κs. search needs) returns-3 returns-4
-    (search needs) (search needs) returns-5)
+    (tie.spec (λ c κs. omega arith) returns (λ c κs. omega arith) returns-2 (λ c κs. omega arith) returns-3 returns-4
+    (λ c. omega arith) (λ c. omega arith) returns-5)

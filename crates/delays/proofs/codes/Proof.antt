@@ -3,6 +3,7 @@
 use mathlib.Core.Path.{_≡_, _∙_, sym}
 use mathlib.Core.List.{List}
 use Prim.Native.Nat.{ℕ}
+use native.Mathlib.Omega.{arith}
 use borrow.Author.Needs.{needs}
 use lib.ListN.{getD}
 use Rattle.delays.specs.Steps.{codedPair}
@@ -53,6 +54,7 @@ returns-7 c =
 pub codes-spec : {M : Type 1} → statement M
 codes-spec =
     tie.close
-    (tie.spec (search needs) (search needs) (λ c κs. search needs) (search needs) (search needs) (search needs)
-    (search needs) (search needs) (search needs) (λ c κs. search needs) (search needs) (search needs) (search needs)
-    (search needs) (λ c κs. search needs) returns returns-2 returns-3 returns-4 returns-5 returns-6 returns-7)
+    (tie.spec (λ c. omega arith) (λ c. omega arith) (λ c κs. omega arith) (search needs) (search needs) (search needs)
+    (search needs) (λ c. omega arith) (λ c. omega arith) (λ c κs. omega arith) (search needs) (search needs)
+    (search needs) (search needs) (λ c κs. omega arith) returns returns-2 returns-3 returns-4 returns-5 returns-6
+    returns-7)

@@ -2,7 +2,6 @@
 -- Assumes nothing.
 use Prim.Native.Nat.{_-_}
 use native.Mathlib.Omega.{arith}
-use borrow.Author.Needs.{needs}
 use Rattle.laws.proofs.Lowest.{NoneUpTo, none-yet}
 use Rattle.lsp.specs.Order.{falls}
 use Rattle.lsp.proofs.Falls.{one-more, found, nowhere}
@@ -19,7 +18,7 @@ loop-holds : tie.Need-loop-holds Inv-loop μ-loop
 loop-holds c = none-yet _
 
 returns : tie.Need-returns Inv-loop μ-loop
-returns c = found _ (c .before .before .loop .inv) (search needs) (c .if1 .taken)
+returns c = found _ (c .before .before .loop .inv) (omega arith) (c .if1 .taken)
 
 loop-again : tie.Need-loop-again Inv-loop μ-loop
 loop-again c = one-more (c .before .before .before .args .t1) (c .before .before .loop .inv) (c .if1 .left)
