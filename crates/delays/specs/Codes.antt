@@ -47,7 +47,8 @@ inWindow before rank = both (leb (baseOf before) rank) (leb rank (baseOf before 
 abbrev pub pairOf : ℕ → ℕ → ℕ → Coded → Coded
 pairOf n a b rest =
     unless (listed a) (NotListed n)
-    (unless (listed b) (NotListed (n + 1)) (unless (inWindow (rankWith a) (rankWith b)) (OutsideWindow (n + 1)) rest))
+    (unless (listed b) (NotListed (n + 1))
+    (unless (inWindow (rankWith a) (rankWith b)) (OutsideWindow (n + 1)) rest))
 
 -- the codes of delays of a, b, c and d twelfths, or the first refusal; subframe 3 does not look at 2
 abbrev pub fourOf : ℕ → ℕ → ℕ → ℕ → Coded
