@@ -132,6 +132,14 @@ module _ (r : Record) (s : List ℕ) where
   unfolding frameLeft
   left a e = ap (λ (x : Written). leftBy x (frameOf r) s) e
 
+  -- the answer and the buffer at once
+  pub answered : (a : Written) → a ≡ writtenOf r (length s) → (a ≡ writtenOf r (length s)) × (leftBy a (frameOf r) s ≡ frameLeft r s)
+  answered a e = (e, left a e)
+
+  pub laid : (next : List ℕ) → Written.Frame ≡ writtenOf r (length s) → next ≡ frameOf r
+      → (Written.Frame ≡ writtenOf r (length s)) × (next ≡ frameLeft r s)
+  laid next e is = (e, is ∙ left Written.Frame e)
+
 -- two ways to say the indices send the same frame
 pub packed-cong : (u v : ℕ → ℕ) → ((f : ℕ) → f < 29 → u f ≡ v f) → packed (sent u) ≡ packed (sent v)
 unfolding sent

@@ -17,9 +17,10 @@ use Rattle.laws.specs.Total.{total}
 use Rattle.laws.specs.Tabulate.{tabulate}
 use Rattle.laws.proofs.Total.{total-more, total-most}
 use Rattle.laws.proofs.Filled.{filled-all}
+use Rattle.laws.proofs.Tabulate.{length-tabulate, getD-tabulate}
 use Rattle.frame.specs.Places.{fieldAt, bitIn}
 use Rattle.frame.specs.Frame.{bitAt, share, indexIn}
-use Rattle.frame.specs.Steps.{entries}
+use Rattle.frame.specs.Steps.{entries, indicesUpTo}
 use Rattle.frame.proofs.Places.{next, field-below, bit-below, entry-field, entry-bit}
 
 -- the bit at the place after the p-th, as the code takes it
@@ -94,11 +95,33 @@ module _ (b : ℕ → ℕ) (bits : (p : ℕ) → b p < 2) where
             ∙ g .here f l
             ∙ sym (total-more (share b f) p ∙ rw (ne-eqb (fieldAt (p + 1)) f (λ w. e (sym w))) (omega arith))
 
-  pub gathered-all : {p : ℕ} {v : List ℕ} → 144 ≤ p → Gathered p v → v ≡ tabulate (indexIn b) 29
-  unfolding indexIn
-  gathered-all {p} {v} h g =
-      filled-all 0 (indexIn b) 29 v
-      (record { long = g .long; upto = omega arith; here = λ f l. g .here f l ∙ ap (total (share b f)) (omega (arith, g .upto)) })
+  -- the same as one equation
+  pub gathered-is : {p : ℕ} {v : List ℕ} → Gathered p v → v ≡ indicesUpTo b p
+  unfolding indicesUpTo
+  gathered-is {p} {v} g = filled-all 0 (λ f. total (share b f) p) 29 v (record { long = g .long; upto = omega arith; here = g .here })
+
+  pub gathered-from : {p : ℕ} {v : List ℕ} → p ≤ 144 → v ≡ indicesUpTo b p → Gathered p v
+  unfolding indicesUpTo
+  gathered-from {p} {v} h e =
+      rw e
+      (record {
+        long = length-tabulate (λ f. total (share b f) p) 29;
+        upto = h;
+        here = λ f l. getD-tabulate (λ f. total (share b f) p) 0 29 f l;
+      })
+
+-- they are 29 of them
+pub indices-long : (b : ℕ → ℕ) (p : ℕ) → length (indicesUpTo b p) ≡ 29
+unfolding indicesUpTo
+indices-long b p = length-tabulate (λ f. total (share b f) p) 29
+
+-- after no place, and after all of them
+pub indices-none : (b : ℕ → ℕ) (bits : (p : ℕ) → b p < 2) → replicate 29 0 ≡ indicesUpTo b (8 * 0)
+indices-none b bits = gathered-is b bits (gathered-none b bits)
+
+pub indices-all : (b : ℕ → ℕ) (n : ℕ) {v : List ℕ} → 18 ≤ n → n ≤ 18 → v ≡ indicesUpTo b (8 * n) → v ≡ tabulate (indexIn b) 29
+unfolding indicesUpTo indexIn
+indices-all b n a l e = let all : 8 * n ≡ 144 = omega arith in e ∙ ap (indicesUpTo b) all
 
 -- a turn as the code takes it: the entry at p, the bit shifted to its weight
 module _ (s t : List ℕ) (same : t ≡ entries) {p : ℕ} {v : List ℕ} (g : Gathered (bitAt s) (bitAt-small s) p v) (h : p < 144) where

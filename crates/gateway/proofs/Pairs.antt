@@ -8,7 +8,7 @@ use borrow.Author.Tests.{eq-eqb, ne-eqb}
 use lib.ListN.{getD, set}
 use Rattle.laws.specs.Bytes.{pairAt}
 use Rattle.laws.specs.Tabulate.{tabulate}
-use Rattle.laws.proofs.Filled.{Filled, filled-more, filled-done}
+use Rattle.laws.proofs.Filled.{Filled, filled-fewer, filled-more, filled-done}
 use Rattle.record.specs.Fields.{indexOf}
 use Rattle.record.specs.declared.Record.{Record}
 use Rattle.record.proofs.Laws.{index-parameter, index-subframe}
@@ -38,7 +38,7 @@ module _ (r : Record) where
 
   -- fewer of them are, too
   pub put-fewer : {i : ℕ} (j : ℕ) {out : List ℕ} → Put i out → j ≤ i → Put j out
-  put-fewer j p h = record { long = p .long; upto = omega (arith, p .upto); here = λ k l. p .here k (omega arith) }
+  put-fewer j p h = filled-fewer 0 (recordByte r) 56 j p h
 
   -- one pair more
   pub put-next : (f i x : ℕ) (out : List ℕ) → Put i out → i ≡ 2 * f → f < 28 → x ≡ indexOf r (f + 1) → Put (i + 2) (withPair out i x)
