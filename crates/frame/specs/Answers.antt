@@ -70,6 +70,10 @@ abbrev pub readRefusal : Verdict → ℕ
 readRefusal Verdict.Read = 0
 readRefusal Verdict.WrongLength = 1
 
+abbrev pub readTells : Verdict → List ℕ
+readTells Verdict.Read = []
+readTells Verdict.WrongLength = []
+
 abbrev pub refusalOf : Written → ℕ
 refusalOf Written.Frame = 0
 refusalOf Written.WrongLength = 1

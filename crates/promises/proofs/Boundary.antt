@@ -9,7 +9,7 @@ use lib.IntN.{pos, natAbs}
 use lib.ListN.{length}
 use Rattle.laws.proofs.Tabulate.{length-tabulate}
 use Rattle.frame.specs.Frame.{frameOf}
-use Rattle.frame.specs.Answers.{readingOf, writtenOf, frameLeft, leftBy, refusalOf}
+use Rattle.frame.specs.Answers.{readingOf, correctionNumber, writtenOf, frameLeft, leftBy, refusalOf}
 use Rattle.frame.specs.declared.Reading.{Reading}
 use Rattle.frame.specs.declared.Verdict.the-variants as Verdict
 use Rattle.frame.specs.declared.Written.{Written}
@@ -29,7 +29,7 @@ pairs-hold-record = (λ r shaped. record-of-bytes r (shaped .parameters) (shaped
 
 -- where both buffers have their lengths, a reading is told and put
 module _ (s o : List ℕ) (read : readingOf s .verdict ≡ Verdict.Read) (long : length o ≡ 56) where
-  pub read-result-is : readResult s (length o) ≡ pos (16 * readingOf s .mark + readingOf s .number)
+  pub read-result-is : readResult s (length o) ≡ pos (16 * readingOf s .mark + correctionNumber (readingOf s))
   unfolding readResult
   read-result-is = rw (eq-eqb (length o) 56 long, read)
 
@@ -40,7 +40,7 @@ module _ (s o : List ℕ) (read : readingOf s .verdict ≡ Verdict.Read) (long :
 pub read-tells : ReadTells
 unfolding ReadTells
 read-tells s o eighteen long = record {
-  told = 16 * readingOf s .mark + readingOf s .number;
+  told = 16 * readingOf s .mark + correctionNumber (readingOf s);
   result = read-result-is s o read long;
   mark = reading-apart s .0;
   number = reading-apart s .1;
@@ -52,7 +52,7 @@ read-tells s o eighteen long = record {
 
 -- the writer's result and buffer, where the record has 56 bytes
 module _ (s o : List ℕ) (long : length s ≡ 56) where
-  result-is : writeResult s (length o) ≡ refused (refusalOf (writtenOf (recordIn s) (length o)))
+  pub result-is : writeResult s (length o) ≡ refused (refusalOf (writtenOf (recordIn s) (length o)))
   unfolding writeResult
   result-is = rw (eq-eqb (length s) 56 long)
 
@@ -80,7 +80,7 @@ pub boundary-reads-back : BoundaryReadsBack
 unfolding BoundaryReadsBack ReadsBack recordIn
 boundary-reads-back s o p full room e = (
   read-result-is (frameLeftBy s o) p (ap (λ (x : Reading). x .verdict) back) room
-      ∙ ap (λ (x : Reading). pos (16 * x .mark + x .number)) back,
+      ∙ ap (λ (x : Reading). pos (16 * x .mark + correctionNumber x)) back,
   record-left-is (frameLeftBy s o) p (ap (λ (x : Reading). x .verdict) back) room
       ∙ ap (λ (x : Reading). bytesOf (x .indices)) back ∙ bytes-of-record s (full .long) (full .bytes),
 )

@@ -1,16 +1,18 @@
 -- The promises about frames, shown.
 -- Assumes nothing.
 use mathlib.Core.Path.{_≡_, _∙_, sym, refl, ap, subst}
-use mathlib.Core.Bool.{Bool, true, false, cond}
+use mathlib.Core.Bool.{Bool, true, false, cond, true≢false}
 use mathlib.Core.List.{List}
-use Prim.Native.Nat.{ℕ, _+_, _%_, _<_, _≤_}
+use Prim.Native.Nat.{ℕ, _+_, _%_, _^_, _<_, _≤_}
 use native.Mathlib.Omega.{arith}
 use native.Mathlib.Decide.{ℕ-discrete}
 use borrow.Author.Tests.{eq-eqb, ne-eqb}
-use lib.Bits.{bitXor}
-use lib.Dec.{eqb}
+use lib.Bits.{bitXor, xor-lt}
+use lib.Dec.{T, eqb, eqb→eq}
 use lib.ListN.{length, getD}
+use Rattle.laws.specs.Lowest.{lowest}
 use Rattle.laws.specs.Total.{bit}
+use Rattle.laws.proofs.Lowest.{lowest-zero, lowest-found}
 use Rattle.laws.proofs.Bits.{bit-xor, same-bits}
 use Rattle.laws.proofs.Tabulate.{length-tabulate, getD-tabulate}
 use Rattle.record.specs.Fields.{tooLarge, indexOf, widthOf}
@@ -19,18 +21,20 @@ use Rattle.record.proofs.Laws.{none-too-large, all-fit-none-too-large, record-i
 use Rattle.frame.specs.Places.{fieldAt, bitIn, bitsIn, placeOf, fieldOf, bitOf}
 use Rattle.frame.specs.Parity.{guardedName, guardedPlace, number, mended, inverted}
 use Rattle.frame.specs.Frame.{byteOf, shiftOf, bitAt, packed, indexIn, recordOf, sent, withParity, parityOf, frameOf}
-use Rattle.frame.specs.Answers.{recordMark, readingOf, writtenOf}
+use Rattle.frame.specs.Answers.{recordMark, readingOf, correctionNumber, writtenOf}
 use Rattle.frame.specs.declared.Reading.{Reading}
 use Rattle.frame.specs.declared.Verdict.the-variants as Verdict
 use Rattle.frame.specs.declared.Written.the-variants as Written
+use Rattle.frame.proofs.Order.{byte-small}
 use Rattle.frame.proofs.Fields.{value-small, value-bit, field-small, bit-small, place-of-here, place-first, place-last, field-of-place}
 use Rattle.frame.proofs.Gathered.{bitAt-small}
 use Rattle.frame.proofs.Packed.{sent-small}
 use Rattle.frame.proofs.Mended.{guarded-field-small, guarded-bit-small, guarded-place, guarded-first, guarded-apart, mended-bits, mended-same, mended-there}
 use Rattle.frame.proofs.Answered.{accepted, Accepted, accepted-only, left, read-eighteen}
-use Rattle.frame.proofs.Readings.{record-fits}
-use Rattle.frame.proofs.Laws.{bit-packed, packed-byte, length-packed, packed-bits, packed-cong-bits, number-cong, record-cong, value-sent, clean-same, bit-number, clean-check, number-over, mended-over, parity-below, written-clean, index-of-record, bits-width, as-sent, parity-told, number-one, number-none, mended-one, number-two, nowhere}
-use Rattle.promises.specs.Frames.{Shaped, Eighteen, ReadsBack, WritesBack, Clean, SameBits, Made, flipped, readBit, DamageAlone, OneMended, TwoReported, EveryFrameRead, OneFrame, Comes, SixteenFrames}
+use Rattle.frame.proofs.Readings.{record-fits, reading-range}
+use Rattle.frame.proofs.Laws.{bit-packed, packed-byte, length-packed, packed-bits, packed-cong-bits, number-cong, record-cong, value-sent, clean-same, bit-number, clean-check, number-over, mended-over, parity-below, written-clean, index-of-record, bits-width, as-sent, parity-told, number-one, number-none, mended-one, number-two, number-third, nowhere}
+use Rattle.promises.specs.Frames.{Shaped, Eighteen, ReadsBack, WritesBack, Clean, SameBits, Made, flipped, DamageAlone, Guarded, Flipped, Unflipped, AtMostOne, ExactlyTwo, OneMended, TwoReported, EveryFrameRead, OneFrame, Comes, SixteenFrames}
+use Rattle.promises.specs.Repairs.{readBit}
 
 -- the frame of a record, bit by bit
 module _ (r : Record) where
@@ -87,8 +91,8 @@ module _ (s : List ℕ) (long : length s ≡ 18) where
   read-indices : readingOf s .indices ≡ recordOf (mended (bitAt s))
   read-indices = ap (λ (x : Reading). x .indices) (read-eighteen s long)
 
-  pub read-number : readingOf s .number ≡ number (bitAt s)
-  read-number = ap (λ (x : Reading). x .number) (read-eighteen s long)
+  pub read-number : correctionNumber (readingOf s) ≡ number (bitAt s)
+  read-number = ap correctionNumber (read-eighteen s long)
 
   read-mark : readingOf s .mark ≡ recordMark (recordOf (mended (bitAt s)))
   read-mark = ap (λ (x : Reading). x .mark) (read-eighteen s long)
@@ -174,32 +178,47 @@ module _ (w e : List ℕ) where
   flipped-bit : (p : ℕ) → 1 ≤ p → p ≤ 144 → bitAt (flipped w e) p ≡ (bitAt w p + bitAt e p) % 2
   unfolding bitAt
   flipped-bit p a l =
-      ap (λ (x : ℕ). bit x (shiftOf p)) (getD-tabulate (λ k. bitXor (getD w k 0) (getD e k 0)) 0 18 (byteOf p) (omega arith))
+      ap (λ (x : ℕ). bit x (shiftOf p)) (getD-tabulate (λ k. bitXor (getD w k 0) (getD e k 0)) 0 18 (byteOf p) (byte-small p a l))
       ∙ bit-xor (getD w (byteOf p) 0) (getD e (byteOf p) 0) (shiftOf p)
 
+-- an index that is read fits its field
+read-fits : (s : List ℕ) (f : ℕ) → 1 ≤ f → f ≤ 28 → indexOf (readingOf s .indices) f < 2 ^ widthOf f
+read-fits s f a l = none-too-large (readingOf s .indices) (reading-range s .fits) f a l
+
 -- a frame that the writer made
-module _ (w : List ℕ) (made : Made w) where
+module _ (r : Record) (w : List ℕ) (made : Made r w) where
   made-long : length w ≡ 18
-  made-long = ap length (sym (made .frame)) ∙ frame-long (made .written)
+  made-long = ap length (sym (made .frame)) ∙ frame-long r
 
   made-clean : number (bitAt w) ≡ 0
-  made-clean = ap (λ (l : List ℕ). number (bitAt l)) (sym (made .frame)) ∙ frame-clean (made .written)
+  made-clean = ap (λ (l : List ℕ). number (bitAt l)) (sym (made .frame)) ∙ frame-clean r
+
+  made-fits : tooLarge r ≡ 0
+  made-fits = accepted-only r 18 (made .accepted) .fits
+
+  -- the written record is read in it
+  made-reads : readingOf w .indices ≡ r
+  made-reads =
+      read-indices w made-long ∙ ap (λ (l : List ℕ). recordOf (mended (bitAt l))) (sym (made .frame)) ∙ record-read r (made .shaped) made-fits
 
   module _ (e : List ℕ) (full : Eighteen e) where
-    -- the repair is that of the flips alone
-    pub flips-number : readingOf (flipped w e) .number ≡ readingOf e .number
+    -- the number is that of the flips alone
+    pub flips-number : correctionNumber (readingOf (flipped w e)) ≡ correctionNumber (readingOf e)
     flips-number =
         read-number (flipped w e) (flipped-long w e)
         ∙ number-over (bitAt w) (bitAt e) (bitAt (flipped w e)) (flipped-bit w e) made-clean
         ∙ sym (read-number e (full .long))
 
-    pub flips-bit : (f i : ℕ) → 1 ≤ f → f ≤ 28 → i < widthOf f → readBit (flipped w e) f i ≡ (readBit w f i + readBit e f i) % 2
+    -- each bit read is the written one, reversed where the flips alone give 1
+    pub flips-bit : (f i : ℕ) → 1 ≤ f → f ≤ 28 → i < widthOf f
+        → readBit (flipped w e) f i ≡ (bit (indexOf r f) i + readBit e f i) % 2
     flips-bit f i a l h =
         read-bit (flipped w e) (flipped-long w e) f i a l h
         ∙ mended-over (bitAt w) (bitAt e) (bitAt (flipped w e)) (flipped-bit w e) made-clean (placeOf f i) first last
         ∙ ap (λ (x : ℕ). (x + mended (bitAt e) (placeOf f i)) % 2)
-        (sym (clean-same (bitAt w) made-clean (placeOf f i) first) ∙ sym (read-bit w made-long f i a l h))
-        ∙ ap (λ (x : ℕ). (readBit w f i + x) % 2) (sym (read-bit e (full .long) f i a l h))
+        (sym (clean-same (bitAt w) made-clean (placeOf f i) first) ∙ sym (read-bit w made-long f i a l h)
+        ∙ ap (λ (x : Record). bit (indexOf x f) i) made-reads)
+        ∙ ap (λ (x : ℕ). (bit (indexOf r f) i + x) % 2) (sym (read-bit e (full .long) f i a l h))
       where
         wide : i < bitsIn f
         wide = rw (bits-width f a) h
@@ -210,16 +229,73 @@ module _ (w : List ℕ) (made : Made w) where
         last : placeOf f i ≤ 144
         last = place-last f i (omega arith) wide
 
+    -- so each index read is the written one, exclusive or that of the flips alone
+    flips-index : (f : ℕ) → 1 ≤ f → f ≤ 28
+        → indexOf (readingOf (flipped w e) .indices) f ≡ bitXor (indexOf r f) (indexOf (readingOf e .indices) f)
+    flips-index f a l =
+        same-bits (widthOf f) (indexOf (readingOf (flipped w e) .indices) f) (bitXor (indexOf r f) (indexOf (readingOf e .indices) f))
+        (read-fits (flipped w e) f a l)
+        (xor-lt (widthOf f) (indexOf r f) (indexOf (readingOf e .indices) f) (none-too-large r made-fits f a l) (read-fits e f a l))
+        (λ i h. flips-bit f i a l h ∙ sym (bit-xor (indexOf r f) (indexOf (readingOf e .indices) f) i))
+
 pub damage-alone : DamageAlone
 unfolding DamageAlone
-damage-alone w e made full = (flips-bit w made e full, flips-number w made e full)
+damage-alone r w e made full = record { indices = flips-index r w made e full; number = flips-number r w made e full }
+
+-- of flips with no more than one guarded place among them: all but one are unflipped
+module _ (e : List ℕ) where
+  set-at : ℕ → Bool
+  set-at n = eqb (bitAt e (guardedPlace n)) 1
+
+  not-set : (n : ℕ) → (Flipped e n → ⊥) → Unflipped e n
+  not-set n w = let s = bitAt-small e (guardedPlace n) in omega (arith, s, w)
+
+  -- the lowest one that is flipped, or the first where none is
+  pub record AllBut (m : ℕ) : Type 0 where
+    pub guarded : Guarded m
+    pub rest : (n : ℕ) → 1 ≤ n → n ≤ 15 → (n ≡ m → ⊥) → Unflipped e n
+
+  pub all-but-one : AtMostOne e → (m : ℕ) × AllBut m
+  unfolding set-at
+  all-but-one most = go (ℕ-discrete (lowest set-at 15) 0)
+    where
+      unset : (n : ℕ) → set-at n ≡ false → Flipped e n → ⊥
+      unset n f t = true≢false (sym (eq-eqb (bitAt e (guardedPlace n)) 1 t) ∙ f)
+
+      go : Dec (lowest set-at 15 ≡ 0) → (m : ℕ) × AllBut m
+      go (yes z) = (
+        1,
+        record {
+          guarded = record { from = omega arith; upto = omega arith };
+          rest = λ n a l w. not-set n (unset n (lowest-zero set-at 15 z n a l));
+        },
+      )
+      go (no z) = (
+        j,
+        record {
+          guarded = here;
+          rest = λ n a l w. not-set n (λ f. w (most n j (record { from = a; upto = l }) here f (eqb→eq (bitAt e (guardedPlace j)) 1 (subst T (sym (found .1)) tt))));
+        },
+      )
+        where
+          j : ℕ
+          j = lowest set-at 15
+
+          one : 1 ≤ j
+          one = omega (arith, z)
+
+          found : (j ≤ 15) × (set-at j ≡ true) × ((m : ℕ) → 1 ≤ m → m < j → set-at m ≡ false)
+          found = lowest-found set-at 15 j refl one
+
+          here : Guarded j
+          here = record { from = one; upto = found .0 }
 
 pub one-mended : OneMended
 unfolding OneMended
-one-mended w e made full m a l rest n b k held =
-    flips-bit w made e full F K one (omega (arith, small)) wide
+one-mended r w e made full most n held =
+    flips-bit r w made e full F K one (omega (arith, small)) wide
     ∙ (let z : readBit e F K ≡ 0 = gone in
-    let s : readBit w F K < 2 = omega arith in
+    let s : bit (indexOf r F) K < 2 = omega arith in
     omega (arith, z, s))
   where
     F : ℕ
@@ -228,25 +304,49 @@ one-mended w e made full m a l rest n b k held =
     K : ℕ
     K = bitOf (guardedName n)
 
+    b : 1 ≤ n
+    b = held .guarded .from
+
+    k : n ≤ 15
+    k = held .guarded .upto
+
     small : F < 29
     small = guarded-field-small n b k
 
     one : 1 ≤ F
-    one = omega (arith, held)
+    one = omega (arith, held .held)
 
     wide : K < widthOf F
     wide = subst (λ (x : ℕ). K < x) (bits-width F one) (guarded-bit-small n b k)
+
+    but : (m : ℕ) × AllBut e m
+    but = all-but-one e most
 
     gone : readBit e F K ≡ 0
     gone =
         read-bit e (full .long) F K one (omega (arith, small)) wide
         ∙ ap (mended (bitAt e)) (sym (guarded-place n b k))
-        ∙ mended-one (bitAt e) (bitAt-small e) m a l rest n b k
+        ∙ mended-one (bitAt e) (bitAt-small e) (but .0) (but .1 .guarded .from) (but .1 .guarded .upto) (but .1 .rest) n b k
+
+-- two flipped places and no other, as the laws of the flips take them
+module _ (e : List ℕ) (m n : ℕ) (two : ExactlyTwo e m n) where
+  no-other : (q : ℕ) → 1 ≤ q → q ≤ 15 → (q ≡ m → ⊥) → (q ≡ n → ⊥) → Unflipped e q
+  no-other q a l u v = two .no-more q (record { from = a; upto = l }) u v
+
+  pub two-told : number (bitAt e) ≡ 0 → ⊥
+  two-told =
+      number-two (bitAt e) m n (two .one .from) (two .one .upto) (two .other .from) (two .other .upto) (two .apart) (two .one-flipped)
+      (two .other-flipped) no-other
+
+  pub two-third : (number (bitAt e) ≡ m → ⊥) × (number (bitAt e) ≡ n → ⊥)
+  two-third =
+      number-third (bitAt e) m n (two .one .from) (two .one .upto) (two .other .from) (two .other .upto) (two .apart) (two .one-flipped)
+      (two .other-flipped) no-other
 
 pub two-reported : TwoReported
 unfolding TwoReported
-two-reported w e made full m n a l b k apart here there rest z =
-    number-two (bitAt e) m n a l b k apart here there rest (sym (read-number e (full .long)) ∙ sym (flips-number w made e full) ∙ z)
+two-reported r w e made full m n two z =
+    two-told e m n two (sym (read-number e (full .long)) ∙ sym (flips-number r w made e full) ∙ z)
 
 pub every-frame-read : EveryFrameRead
 unfolding EveryFrameRead

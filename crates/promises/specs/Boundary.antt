@@ -7,7 +7,7 @@ use lib.IntN.{pos, negℤ}
 use lib.ListN.{length, getD}
 use Rattle.record.specs.declared.Record.{Record}
 use Rattle.frame.specs.Frame.{frameOf}
-use Rattle.frame.specs.Answers.{readingOf, writtenOf, refusalOf}
+use Rattle.frame.specs.Answers.{readingOf, correctionNumber, writtenOf, refusalOf}
 use Rattle.gateway.specs.Pairs.{bytesOf, recordIn}
 use Rattle.gateway.specs.Results.{readResult, recordLeft, writeResult, frameLeftBy}
 use Rattle.promises.specs.Frames.{Shaped}
@@ -27,7 +27,7 @@ pub record ReadsInto (s o : List ℕ) : Type 0 where
   pub told : ℕ
   pub result : readResult s (length o) ≡ pos told
   pub mark : told / 16 ≡ readingOf s .mark
-  pub number : told % 16 ≡ readingOf s .number
+  pub number : told % 16 ≡ correctionNumber (readingOf s)
   pub left : recordLeft s o ≡ bytesOf (readingOf s .indices)
 
 unfoldable pub ReadTells : Type 0

@@ -4,10 +4,10 @@ use Rattle.listing.specs.Promised.{ListingFits, ListingStands, RefusedListingSt
 use Rattle.promises.specs.Frames.{ReadsBack, SameBits, DamageAlone, OneMended, TwoReported, EveryFrameRead, OneFrame, SixteenFrames}
 use Rattle.promises.specs.Functions.{WriteThenRead, ReadThenWrite, RepairByDamage, OneFlip, TwoFlips, NoTwoFrames}
 use Rattle.promises.specs.Refused.{ReaderRefuses, WriterRefuses, RefusedFrameStays, HearingRefuses, RefusedStateStays, DelaysRefuse, CodeRefuses, RefusedCodeStays, RefusedReadStays, RefusedWriteStays}
-use Rattle.promises.specs.Repairs.{CleanChangesNothing, ParityHitChangesNothing, DataHitInvertsOne, TwoNeverMended, UnguardedUnseen, ThreeUnseen}
+use Rattle.promises.specs.Repairs.{FifteenPlaces, CleanChangesNothing, ParityHitChangesNothing, DataHitInvertsOne, TwoNeverMended, UnguardedUnseen, ThreeUnseen}
 use Rattle.promises.specs.Boundary.{PairsHoldRecord, ReadTells, WriteTells, BoundaryReadsBack}
 use Rattle.promises.specs.Values.{NearestEntry, GainsComeBack, CgMirrored, DelaysRise, EachByteOnce, DelaysComeBack, FixedWindows, GainsHeard, DelaysHeard, Averaged, FirstAveraged, StateHolds, MarkIsLowest, Ternary, CodesOverlap, DrawsWrap, DrawsAtPositions}
-use Rattle.promises.specs.Numbers.{WriterNumbers, HearingNumbers, DelayNumbers, CodeNumbers, GainNumbers, RecordingNumbers}
+use Rattle.promises.specs.Numbers.{ReaderNumbers, WriterNumbers, HearingNumbers, DelayNumbers, CodeNumbers, GainNumbers, RecordingNumbers, ReadResultNumbers, WriteResultNumbers}
 use Rattle.promises.specs.Rule.{LowestFirst, RefusedExactly, SoundExactly}
 use Rattle.promises.specs.Made.{MadeIsSound, SoundIsMade, NoTwo}
 use Rattle.promises.specs.Parts.{VoiceBlocksStand, FramesAreAll, FramesAreLong, FramesFit, EndCounts, RepairsCounted, BreaksCounted, RefusedHasNone, EmptyRefused}
@@ -30,12 +30,15 @@ pub record DemandOne : Type 0 where
   pub delays-refuse : DelaysRefuse
   pub code-refuses : CodeRefuses
   -- each by its number, with what it tells
+  pub reader-numbers : ReaderNumbers
   pub writer-numbers : WriterNumbers
   pub hearing-numbers : HearingNumbers
   pub delay-numbers : DelayNumbers
   pub code-numbers : CodeNumbers
   pub gain-numbers : GainNumbers
   pub recording-numbers : RecordingNumbers
+  pub read-result-numbers : ReadResultNumbers
+  pub write-result-numbers : WriteResultNumbers
   -- nothing is written, and the state stays
   pub refused-frame-stays : RefusedFrameStays
   pub refused-state-stays : RefusedStateStays
@@ -62,6 +65,7 @@ pub record DemandTwo : Type 0 where
   pub one-frame : OneFrame
   pub no-two-frames : NoTwoFrames
   pub sixteen-frames : SixteenFrames
+  pub fifteen-places : FifteenPlaces
   -- gains, delays, averaged parameters, ternary codes
   pub nearest-entry : NearestEntry
   pub gains-come-back : GainsComeBack
