@@ -88,12 +88,12 @@ scattered f h =
 
 -- an index read is the number with the bits at the field's places
 module _ (b : ℕ → ℕ) (f : ℕ) (h : f < 29) where
-  pub value-collected : indexIn b f ≡ fromBits (λ i. b (placeOf f i)) (bitsIn f)
+  pub index-collected : indexIn b f ≡ fromBits (λ i. b (placeOf f i)) (bitsIn f)
   unfolding indexIn
-  value-collected = collected (scattered f h) b
+  index-collected = collected (scattered f h) b
 
-  pub value-small : ((p : ℕ) → b p < 2) → indexIn b f < 2 ^ bitsIn f
-  value-small bits = rw value-collected (fromBits-lt (λ i. b (placeOf f i)) (bitsIn f) (λ i l. bits (placeOf f i)))
+  pub index-small : ((p : ℕ) → b p < 2) → indexIn b f < 2 ^ bitsIn f
+  index-small bits = rw index-collected (fromBits-lt (λ i. b (placeOf f i)) (bitsIn f) (λ i l. bits (placeOf f i)))
 
-  pub value-bit : ((p : ℕ) → b p < 2) → (i : ℕ) → i < bitsIn f → bit (indexIn b f) i ≡ b (placeOf f i)
-  value-bit bits i l = rw value-collected (bit-fromBits (λ i. b (placeOf f i)) (bitsIn f) i (λ k m. bits (placeOf f k)) l)
+  pub index-bit : ((p : ℕ) → b p < 2) → (i : ℕ) → i < bitsIn f → bit (indexIn b f) i ≡ b (placeOf f i)
+  index-bit bits i l = rw index-collected (bit-fromBits (λ i. b (placeOf f i)) (bitsIn f) i (λ k m. bits (placeOf f k)) l)

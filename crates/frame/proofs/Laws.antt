@@ -23,7 +23,7 @@ use Rattle.frame.specs.Places.{fieldAt, bitIn, bitsIn, placeOf}
 use Rattle.frame.specs.Parity.{guardedPlace, check, number, inverted, mended}
 use Rattle.frame.specs.Frame.{byteOf, shiftOf, placeAt, bitAt, packed, share, indexIn, recordOf, sent, withParity, parityOf}
 use Rattle.frame.proofs.Order.{byte-small, shift-small, place-back, there-first, there-last, byte-there, shift-there}
-use Rattle.frame.proofs.Fields.{value-collected, value-bit, field-small, bit-small, place-of-here, field-of-place, bit-of-place}
+use Rattle.frame.proofs.Fields.{index-collected, index-bit, field-small, bit-small, place-of-here, field-of-place, bit-of-place}
 use Rattle.frame.proofs.Mended.{guardedField, guardedBit, guarded-first, guarded-last, field-of-guarded, bit-of-guarded, guarded-apart, mended-same, mended-there}
 
 -- byte k of the bytes packed from the bits b
@@ -83,19 +83,19 @@ module _ (b c : ℕ → ℕ) (same : (p : ℕ) → 1 ≤ p → p ≤ 144 → b p
       (total-cong (λ n. bit n i * b (guardedPlace n)) (λ n. bit n i * c (guardedPlace n)) 15
       (λ n a h. ap (λ (x : ℕ). bit n i * x) (same (guardedPlace n) (guarded-first n a h) (guarded-last n a h)))))
 
-  pub value-cong : (f : ℕ) → indexIn b f ≡ indexIn c f
+  pub index-cong : (f : ℕ) → indexIn b f ≡ indexIn c f
   unfolding indexIn
-  value-cong f =
+  index-cong f =
       total-cong (share b f) (share c f) 144 (λ p a h. ap (λ (x : ℕ). cond (eqb (fieldAt p) f) (x * 2 ^ bitIn p) 0) (same p a h))
 
   pub record-cong : recordOf b ≡ recordOf c
-  record-cong = λ i. record { lsp = parameters i; subframes = indices i; sp = value-cong 27 i; sy = value-cong 28 i }
+  record-cong = λ i. record { lsp = parameters i; subframes = indices i; sp = index-cong 27 i; sy = index-cong 28 i }
     where
       parameters : tabulate (λ k. indexIn b (k + 1)) 10 ≡ tabulate (λ k. indexIn c (k + 1)) 10
-      parameters = tabulate-cong (λ k. indexIn b (k + 1)) (λ k. indexIn c (k + 1)) 10 (λ k h. value-cong (k + 1))
+      parameters = tabulate-cong (λ k. indexIn b (k + 1)) (λ k. indexIn c (k + 1)) 10 (λ k h. index-cong (k + 1))
 
       indices : tabulate (λ k. indexIn b (k + 11)) 16 ≡ tabulate (λ k. indexIn c (k + 11)) 16
-      indices = tabulate-cong (λ k. indexIn b (k + 11)) (λ k. indexIn c (k + 11)) 16 (λ k h. value-cong (k + 11))
+      indices = tabulate-cong (λ k. indexIn b (k + 11)) (λ k. indexIn c (k + 11)) 16 (λ k h. index-cong (k + 11))
 
   pub mended-cong : (p : ℕ) → 1 ≤ p → p ≤ 144 → mended b p ≡ mended c p
   unfolding mended
@@ -104,10 +104,10 @@ module _ (b c : ℕ → ℕ) (same : (p : ℕ) → 1 ≤ p → p ≤ 144 → b p
       ∙ ap (λ (n : ℕ). cond (eqb p (guardedPlace n)) (inverted (c p)) (c p)) number-cong
 
 -- an index that fits its field is read as it was sent
-pub value-sent : (v : ℕ → ℕ) (f : ℕ) → f < 29 → v f < 2 ^ bitsIn f → indexIn (sent v) f ≡ v f
+pub index-sent : (v : ℕ → ℕ) (f : ℕ) → f < 29 → v f < 2 ^ bitsIn f → indexIn (sent v) f ≡ v f
 unfolding sent
-value-sent v f h fits =
-    value-collected (sent v) f h
+index-sent v f h fits =
+    index-collected (sent v) f h
     ∙ fromBits-cong (λ i. sent v (placeOf f i)) (bit (v f)) (bitsIn f) (λ i l. rw (field-of-place f i h l, bit-of-place f i h l))
     ∙ fromBits-bit (bitsIn f) (v f) fits
 
@@ -258,7 +258,7 @@ pub as-sent : (b : ℕ → ℕ) → ((p : ℕ) → b p < 2) → (p : ℕ) → 1 
 unfolding sent
 as-sent b bits p a l =
     sym (ap (λ (x : ℕ). bit x (bitIn p)) (index (ℕ-discrete (fieldAt p) 0))
-    ∙ value-bit b (fieldAt p) (field-small p a l) bits (bitIn p) (bit-small p a l)
+    ∙ index-bit b (fieldAt p) (field-small p a l) bits (bitIn p) (bit-small p a l)
     ∙ ap b (place-of-here p a l))
   where
     index : Dec (fieldAt p ≡ 0) → withParity (recordOf b) (indexIn b 0) (fieldAt p) ≡ indexIn b (fieldAt p)

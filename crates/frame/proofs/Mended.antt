@@ -24,7 +24,7 @@ use Rattle.frame.specs.Places.Name.{HP}
 use Rattle.frame.specs.Parity.{guarded, guardedName, guardedPlace, check, numberOf, number, inverted, mended}
 use Rattle.frame.specs.Frame.{share, indexIn, recordOf}
 use Rattle.frame.specs.Steps.{guardedEntries, inverting, mendedFields, recordBy}
-use Rattle.frame.proofs.Fields.{value-small, value-bit, place-first, place-last, field-of-place, bit-of-place}
+use Rattle.frame.proofs.Fields.{index-small, index-bit, place-first, place-last, field-of-place, bit-of-place}
 use Rattle.frame.proofs.Number.{guardedBits}
 
 -- the field and the bit of correction number n
@@ -159,7 +159,7 @@ module _ (b : ℕ → ℕ) (bits : (p : ℕ) → b p < 2) where
   guarded-bits n a h =
       guarded-entry n a h v
       ∙ ap (λ (x : ℕ). bit x (guardedBit n)) (at-field (guardedField n) (guarded-field-small n a h))
-      ∙ value-bit b (guardedField n) (guarded-field-small n a h) bits (guardedBit n) (guarded-bit-small n a h)
+      ∙ index-bit b (guardedField n) (guarded-field-small n a h) bits (guardedBit n) (guarded-bit-small n a h)
       ∙ ap b (sym (guarded-place n a h))
 
   pub number-of-fields : numberOf (guardedBits v) ≡ number b
@@ -196,9 +196,9 @@ module _ (b : ℕ → ℕ) (bits : (p : ℕ) → b p < 2) where
     mended-bit : (i : ℕ) → i < bitsIn F → bit (bitXor (indexIn b F) (2 ^ K)) i ≡ bit (indexIn (mended b) F) i
     mended-bit i l =
         bit-xor (indexIn b F) (2 ^ K) i
-        ∙ ap (λ (x : ℕ). (x + bit (2 ^ K) i) % 2) (value-bit b F (guarded-field-small (number b) a h) bits i l)
+        ∙ ap (λ (x : ℕ). (x + bit (2 ^ K) i) % 2) (index-bit b F (guarded-field-small (number b) a h) bits i l)
         ∙ go (ℕ-discrete i K)
-        ∙ sym (value-bit (mended b) F (guarded-field-small (number b) a h) mended-bits i l)
+        ∙ sym (index-bit (mended b) F (guarded-field-small (number b) a h) mended-bits i l)
       where
         go : Dec (i ≡ K) → (b (placeOf F i) + bit (2 ^ K) i) % 2 ≡ mended b (placeOf F i)
         go (yes e) =
@@ -218,8 +218,8 @@ module _ (b : ℕ → ℕ) (bits : (p : ℕ) → b p < 2) where
     mended-value : bitXor (indexIn b F) (2 ^ K) ≡ indexIn (mended b) F
     mended-value =
         same-bits (bitsIn F) (bitXor (indexIn b F) (2 ^ K)) (indexIn (mended b) F)
-        (xor-lt (bitsIn F) (indexIn b F) (2 ^ K) (value-small b F (guarded-field-small (number b) a h) bits) (pow-lt (guarded-bit-small (number b) a h)))
-        (value-small (mended b) F (guarded-field-small (number b) a h) mended-bits)
+        (xor-lt (bitsIn F) (indexIn b F) (2 ^ K) (index-small b F (guarded-field-small (number b) a h) bits) (pow-lt (guarded-bit-small (number b) a h)))
+        (index-small (mended b) F (guarded-field-small (number b) a h) mended-bits)
         mended-bit
 
     at-mended : (f : ℕ) → f < 29 → Dec (f ≡ F) → getD (set v F (bitXor (getD v F 0) (2 ^ K))) f 0 ≡ indexIn (mended b) f

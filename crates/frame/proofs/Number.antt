@@ -109,12 +109,14 @@ pub mended-none : (v : List ℕ) (n : ℕ) → n ≡ 0 → v ≡ mendedFields v 
 unfolding mendedFields
 mended-none v n e = rw (eq-eqb n 0 e)
 
--- a number below 16 as the code mends it, of its list t of entries
-module _ (v t : List ℕ) (same : t ≡ guardedEntries) (n : ℕ) where
-  pub mended-one : (n ≡ 0 → ⊥)
+-- a number below 16 as the code mends it, by its list t of entries
+module _ (t : List ℕ) (same : t ≡ guardedEntries) (n : ℕ) (e : n ≡ 0 → ⊥) where
+  -- the bit that the entry of n names is inverted
+  pub mended-one : (v : List ℕ)
       → set v (getD t (n - 1) 0 / 16) (bitXor (getD v (getD t (n - 1) 0 / 16) 0) (1 * 2 ^ (getD t (n - 1) 0 % 16) % 65536)) ≡ mendedFields v n
   unfolding mendedFields
-  mended-one e = rw (same, ne-eqb n 0 e, shifted-one (getD guardedEntries (n - 1) 0 % 16) (omega arith))
+  mended-one v = rw (same, ne-eqb n 0 e, shifted-one (getD guardedEntries (n - 1) 0 % 16) (omega arith))
 
-  pub mended-field : (n ≡ 0 → ⊥) → n < 16 → getD t (n - 1) 0 / 16 < 29
-  mended-field e h = rw same (guarded-field (n - 1) (omega arith))
+  -- and is in one of the 29
+  pub mended-field : n < 16 → getD t (n - 1) 0 / 16 < 29
+  mended-field h = rw same (guarded-field (n - 1) (omega arith))

@@ -17,7 +17,7 @@ use Rattle.frame.specs.Frame.{bitAt, recordOf}
 use Rattle.frame.specs.Parity.{number, mended}
 use Rattle.frame.specs.Answers.{recordMark, noRecord, readingOf}
 use Rattle.frame.specs.declared.Reading.{Reading}
-use Rattle.frame.proofs.Fields.{value-small}
+use Rattle.frame.proofs.Fields.{index-small}
 use Rattle.frame.proofs.Gathered.{bitAt-small}
 use Rattle.frame.proofs.Mended.{mended-bits}
 use Rattle.frame.proofs.Answered.{read-eighteen, read-refused}
@@ -27,7 +27,7 @@ use Rattle.frame.proofs.Laws.{index-of-record, bits-width, number-below
 pub record-fits : (b : ℕ → ℕ) → ((p : ℕ) → b p < 2) → tooLarge (recordOf b) ≡ 0
 record-fits b bits =
     all-fit-none-too-large (recordOf b)
-    (λ f a l. rw (index-of-record b f a l, sym (bits-width f a)) (value-small b f (omega arith) bits))
+    (λ f a l. rw (index-of-record b f a l, sym (bits-width f a)) (index-small b f (omega arith) bits))
 
 -- what holds of a reading, whether the bytes were a frame or not
 pub record InRange (r : Reading) : Type 0 where

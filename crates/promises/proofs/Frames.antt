@@ -26,13 +26,13 @@ use Rattle.frame.specs.declared.Reading.{Reading}
 use Rattle.frame.specs.declared.Verdict.the-variants as Verdict
 use Rattle.frame.specs.declared.Written.the-variants as Written
 use Rattle.frame.proofs.Order.{byte-small}
-use Rattle.frame.proofs.Fields.{value-small, value-bit, field-small, bit-small, place-of-here, place-first, place-last, field-of-place}
+use Rattle.frame.proofs.Fields.{index-small, index-bit, field-small, bit-small, place-of-here, place-first, place-last, field-of-place}
 use Rattle.frame.proofs.Gathered.{bitAt-small}
 use Rattle.frame.proofs.Packed.{sent-small}
 use Rattle.frame.proofs.Mended.{guarded-field-small, guarded-bit-small, guarded-place, guarded-first, guarded-apart, mended-bits, mended-same, mended-there}
 use Rattle.frame.proofs.Answered.{accepted, Accepted, accepted-only, left, read-eighteen}
 use Rattle.frame.proofs.Readings.{record-fits, reading-range}
-use Rattle.frame.proofs.Laws.{bit-packed, packed-byte, length-packed, packed-bits, packed-cong-bits, number-cong, record-cong, value-sent, clean-same, bit-number, clean-check, number-over, mended-over, parity-below, written-clean, index-of-record, bits-width, as-sent, parity-told, number-one, number-none, mended-one, number-two, number-third, nowhere}
+use Rattle.frame.proofs.Laws.{bit-packed, packed-byte, length-packed, packed-bits, packed-cong-bits, number-cong, record-cong, index-sent, clean-same, bit-number, clean-check, number-over, mended-over, parity-below, written-clean, index-of-record, bits-width, as-sent, parity-told, number-one, number-none, mended-one, number-two, number-third, nowhere}
 use Rattle.promises.specs.Frames.{Shaped, Eighteen, ReadsBack, WritesBack, Clean, SameBits, Made, flipped, DamageAlone, Guarded, Flipped, Unflipped, AtMostOne, ExactlyTwo, OneMended, TwoReported, EveryFrameRead, OneFrame, Comes, SixteenFrames}
 use Rattle.promises.specs.Repairs.{readBit}
 
@@ -61,7 +61,7 @@ module _ (r : Record) where
 
       here : (f : ℕ) → 1 ≤ f → f ≤ 28 → indexIn bits-sent f ≡ indexOf r f
       here f a l =
-          value-sent (withParity r (parityOf r)) f (omega arith)
+          index-sent (withParity r (parityOf r)) f (omega arith)
           (rw (index f a, bits-width f a) (none-too-large r fits f a l))
           ∙ index f a
 
@@ -102,12 +102,12 @@ module _ (s : List ℕ) (long : length s ≡ 18) where
   read-bit f i a l w =
       ap (λ (r : Record). bit (indexOf r f) i) read-indices
       ∙ ap (λ (x : ℕ). bit x i) (index-of-record (mended (bitAt s)) f a l)
-      ∙ value-bit (mended (bitAt s)) f (omega arith) (mended-bits (bitAt s) (bitAt-small s)) i (rw (bits-width f a) w)
+      ∙ index-bit (mended (bitAt s)) f (omega arith) (mended-bits (bitAt s) (bitAt-small s)) i (rw (bits-width f a) w)
 
 -- clean bits have the parity of the record in them
 clean-parity : (b : ℕ → ℕ) → ((p : ℕ) → b p < 2) → number b ≡ 0 → parityOf (recordOf b) ≡ indexIn b 0
 clean-parity b bits e =
-    same-bits 4 (parityOf (recordOf b)) (indexIn b 0) (parity-below (recordOf b)) (value-small b 0 (omega arith) bits)
+    same-bits 4 (parityOf (recordOf b)) (indexIn b 0) (parity-below (recordOf b)) (index-small b 0 (omega arith) bits)
     (λ i l. let t = parity-told b bits i l in
     let c = clean-check b e i l in
     omega (arith, t, c))
@@ -368,7 +368,7 @@ module _ (b c : ℕ → ℕ) (bits : (p : ℕ) → b p < 2) (bits′ : (p : ℕ)
       told : (d : ℕ → ℕ) (bits : (p : ℕ) → d p < 2) → bit (indexOf (recordOf (mended d)) (fieldAt p)) (bitIn p) ≡ mended d p
       told d bits =
           ap (λ (x : ℕ). bit x (bitIn p)) (index-of-record (mended d) (fieldAt p) one small)
-          ∙ value-bit (mended d) (fieldAt p) (field-small p a l) (mended-bits d bits) (bitIn p) (bit-small p a l)
+          ∙ index-bit (mended d) (fieldAt p) (field-small p a l) (mended-bits d bits) (bitIn p) (bit-small p a l)
           ∙ ap (mended d) (place-of-here p a l)
 
   data-same : (p : ℕ) → 1 ≤ p → p ≤ 144 → (fieldAt p ≡ 0 → ⊥) → b p ≡ c p
@@ -385,22 +385,22 @@ module _ (b c : ℕ → ℕ) (bits : (p : ℕ) → b p < 2) (bits′ : (p : ℕ)
       go (no w) = sym (mended-same b p w) ∙ mended-data p a l e ∙ mended-same c p (λ v. w (v ∙ ap guardedPlace (sym same-number)))
 
   -- so the records before correction are the same, and with the number so is the parity
-  value-same : (f : ℕ) → 1 ≤ f → f ≤ 28 → indexIn b f ≡ indexIn c f
-  value-same f a l =
-      same-bits (bitsIn f) (indexIn b f) (indexIn c f) (value-small b f (omega arith) bits) (value-small c f (omega arith) bits′)
-      (λ i h. value-bit b f (omega arith) bits i h ∙ data-same (placeOf f i) (place-first f i (omega arith) h) (place-last f i (omega arith) h) (apart i h)
-      ∙ sym (value-bit c f (omega arith) bits′ i h))
+  index-same : (f : ℕ) → 1 ≤ f → f ≤ 28 → indexIn b f ≡ indexIn c f
+  index-same f a l =
+      same-bits (bitsIn f) (indexIn b f) (indexIn c f) (index-small b f (omega arith) bits) (index-small c f (omega arith) bits′)
+      (λ i h. index-bit b f (omega arith) bits i h ∙ data-same (placeOf f i) (place-first f i (omega arith) h) (place-last f i (omega arith) h) (apart i h)
+      ∙ sym (index-bit c f (omega arith) bits′ i h))
     where
       apart : (i : ℕ) → i < bitsIn f → fieldAt (placeOf f i) ≡ 0 → ⊥
       apart i h z = let g = field-of-place f i (omega arith) h in omega (arith, g, z)
 
   records-same : recordOf b ≡ recordOf c
   records-same = record-is (recordOf c) (indexIn b) (length-tabulate (λ k. indexIn c (k + 1)) 10) (length-tabulate (λ k. indexIn c (k + 11)) 16)
-      (λ f a l. value-same f a l ∙ sym (index-of-record c f a l))
+      (λ f a l. index-same f a l ∙ sym (index-of-record c f a l))
 
   parity-same : indexIn b 0 ≡ indexIn c 0
   parity-same =
-      same-bits 4 (indexIn b 0) (indexIn c 0) (value-small b 0 (omega arith) bits) (value-small c 0 (omega arith) bits′)
+      same-bits 4 (indexIn b 0) (indexIn c 0) (index-small b 0 (omega arith) bits) (index-small c 0 (omega arith) bits′)
       (λ i l. let x = parity-told b bits i l in
       let y = parity-told c bits′ i l in
       let u = bit-number b i l in
