@@ -1,6 +1,6 @@
 -- The loops of `to_record` and `to_fields`: between a record and the list of its indices by field.
 -- Assumes nothing.
-use mathlib.Core.Path.{_≡_, _∙_, sym, refl, ap}
+use mathlib.Core.Path.{_≡_, _∙_, sym, refl}
 use mathlib.Core.List.{List}
 use Prim.Native.Nat.{ℕ, zero, suc, _+_, _<_, _≤_}
 use native.Mathlib.Omega.{arith}
@@ -25,7 +25,12 @@ module _ (v : List ℕ) where
   pub taken-whole : {k n : ℕ} {l s : List ℕ} → TakenLsp k l → 10 ≤ k → TakenSubframes n s → 16 ≤ n
       → record { lsp = l; subframes = s; sp = getD v 27 0; sy = getD v 28 0 } ≡ recordBy v
   taken-whole {k} {n} {l} {s} p a q b =
-      λ i. record { lsp = filled-done 0 _ 10 l a p i; subframes = filled-done 0 _ 16 s b q i; sp = getD v 27 0; sy = getD v 28 0 }
+      λ i. record {
+        lsp = filled-done 0 _ 10 l a p i;
+        subframes = filled-done 0 _ 16 s b q i;
+        sp = getD v 27 0;
+        sy = getD v 28 0;
+      }
 
 -- the first i of the 29 hold the indices of the record r, the parity bits 0
 module _ (r : Record) where
@@ -36,6 +41,7 @@ module _ (r : Record) where
   field : (f : ℕ) → 1 ≤ f → withParity r 0 f ≡ indexOf r f
   field f a = rw (ne-eqb f 0 (λ e. omega arith))
 
+  -- the parity bits are 0 to begin with
   pub laid-none : Laid 1 (replicate 29 0)
   laid-none = record { long = refl; upto = omega arith; here = first }
     where
@@ -43,18 +49,23 @@ module _ (r : Record) where
       first zero h = refl
       first (suc k) h = absurd (omega arith)
 
+  -- one parameter more
   pub laid-lsp : {k : ℕ} {v : List ℕ} → Laid (k + 1) v → k < 10 → Laid (k + 1 + 1) (set v (k + 1) (getD (r .lsp) k 0))
   laid-lsp {k} {v} p h =
-      filled-more 0 (withParity r 0) 29 (k + 1) v _ p (omega arith) (sym (field (k + 1) (omega arith) ∙ index-parameter r k h))
+      filled-more 0 (withParity r 0) 29 (k + 1) v _ p (omega arith)
+      (sym (field (k + 1) (omega arith) ∙ index-parameter r k h))
 
   -- where the parameters end the subframe indices begin
   pub laid-parameters : {k : ℕ} {v : List ℕ} → Laid (k + 1) v → 10 ≤ k → Laid 11 v
   laid-parameters p h = filled-fewer 0 (withParity r 0) 29 11 p (omega arith)
 
-  pub laid-subframe : {n : ℕ} {v : List ℕ} → Laid (n + 11) v → n < 16 → Laid (n + 1 + 11) (set v (n + 11) (getD (r .subframes) n 0))
+  -- one subframe index more
+  pub laid-subframe : {n : ℕ} {v : List ℕ} → Laid (n + 11) v → n < 16
+      → Laid (n + 1 + 11) (set v (n + 11) (getD (r .subframes) n 0))
   laid-subframe {n} {v} p h =
       filled-fewer 0 (withParity r 0) 29 (n + 1 + 11)
-      (filled-more 0 (withParity r 0) 29 (n + 11) v _ p (omega arith) (sym (field (n + 11) (omega arith) ∙ index-subframe r n h)))
+      (filled-more 0 (withParity r 0) 29 (n + 11) v _ p (omega arith) (sym (field (n + 11) (omega arith)
+      ∙ index-subframe r n h)))
       (omega arith)
 
   -- SP and SY, and that is all
@@ -63,4 +74,5 @@ module _ (r : Record) where
   laid-whole {n} {v} p h =
       filled-done 0 (withParity r 0) 29 _ (omega arith)
       (filled-more 0 (withParity r 0) 29 28 _ _
-      (filled-more 0 (withParity r 0) 29 27 v _ (filled-fewer 0 (withParity r 0) 29 27 p (omega arith)) (omega arith) refl) (omega arith) refl)
+      (filled-more 0 (withParity r 0) 29 27 v _ (filled-fewer 0 (withParity r 0) 29 27 p (omega arith))
+      (omega arith) refl) (omega arith) refl)

@@ -19,7 +19,8 @@ refused n = negℤ (pos n)
 -- the reader's result: 16 times the order mark plus the correction number, or the refusal
 abbrev pub readAnswer : Reading → ℤ
 readAnswer a =
-    unless (eqb (readRefusal (a .verdict)) 0) (refused (readRefusal (a .verdict))) (pos (16 * a .mark + correctionNumber a))
+    unless (eqb (readRefusal (a .verdict)) 0) (refused (readRefusal (a .verdict)))
+    (pos (16 * a .mark + correctionNumber a))
 
 -- of a frame and the length of the buffer for the record
 unfoldable pub readResult : List ℕ → ℕ → ℤ
@@ -34,7 +35,8 @@ recordLeft s o = unless (eqb (length o) 56) o (readInto (readingOf s) o)
 
 -- the writer's result: 0, or the refusal; of the bytes of a record and the length of the buffer for the frame
 unfoldable pub writeResult : List ℕ → ℕ → ℤ
-writeResult s n = refused (unless (eqb (length s) 56) (refusalOf Written.WrongLength) (refusalOf (writtenOf (recordIn s) n)))
+writeResult s n =
+    refused (unless (eqb (length s) 56) (refusalOf Written.WrongLength) (refusalOf (writtenOf (recordIn s) n)))
 
 -- what that buffer, which held o, then holds: the record's frame; after a refusal what it held
 unfoldable pub frameLeftBy : List ℕ → List ℕ → List ℕ

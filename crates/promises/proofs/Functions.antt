@@ -10,8 +10,10 @@ use Rattle.frame.specs.declared.Reading.{Reading}
 use Rattle.frame.specs.declared.Written.{Written}
 use Rattle.frame.specs.declared.Written.the-variants as Written
 use Rattle.frame.proofs.Answered.{accepted-only, left}
-use Rattle.promises.specs.Frames.{Shaped, ReadsBack, WritesBack, SameBits, Made, OfTheFlips, DamageAlone, dataBit, OneMended, TwoReported, OneFrame}
-use Rattle.promises.specs.Functions.{Answers, Leaves, WriteThenRead, ReadThenWrite, RepairByDamage, OneFlip, TwoFlips, NoTwoFrames}
+use Rattle.promises.specs.Frames.{Shaped, ReadsBack, WritesBack, SameBits, Made, OfTheFlips, DamageAlone, dataBit}
+use Rattle.promises.specs.Frames.{OneMended, TwoReported, OneFrame}
+use Rattle.promises.specs.Functions.{Answers, Leaves, WriteThenRead, ReadThenWrite, RepairByDamage, OneFlip}
+use Rattle.promises.specs.Functions.{TwoFlips, NoTwoFrames}
 use Rattle.promises.proofs.Frames.{reads-back, same-bits-back, damage-alone, one-mended, two-reported, one-frame}
 
 -- what the contracts say of an answer and of the bytes left
@@ -19,11 +21,17 @@ answers-is : {s : List ℕ} {d : Reading} → Answers s d → d ≡ readingOf s
 answers-is a = a .allowed ∙ ap readingOf (a .bytes)
 
 module _ {r : Record} {s t : List ℕ} {a : Written} (l : Leaves r s a t) where
+  -- the answer is the definition's
   written-is : a ≡ writtenOf r (length s)
-  written-is = l .allowed .0 ∙ ap (λ (x : List ℕ). writtenOf (l .lent .0) (length x)) (l .held) ∙ ap (λ (x : Record). writtenOf x (length s)) (l .handed)
+  written-is =
+      l .allowed .0 ∙ ap (λ (x : List ℕ). writtenOf (l .lent .0) (length x)) (l .held)
+      ∙ ap (λ (x : Record). writtenOf x (length s)) (l .handed)
 
+  -- so are the bytes left
   left-is : t ≡ frameLeft r s
-  left-is = sym (l .left) ∙ l .allowed .1 ∙ ap (frameLeft (l .lent .0)) (l .held) ∙ ap (λ (x : Record). frameLeft x s) (l .handed)
+  left-is =
+      sym (l .left) ∙ l .allowed .1 ∙ ap (frameLeft (l .lent .0)) (l .held)
+      ∙ ap (λ (x : Record). frameLeft x s) (l .handed)
 
 pub write-then-read : WriteThenRead
 unfolding WriteThenRead ReadsBack
@@ -46,8 +54,12 @@ read-then-write s t u d a full long answers leaves = (clean, back)
 
     clean : (a ≡ Written.Frame) × (u ≡ s) → (correctionNumber d ≡ 0) × (d .indices .sp ≡ 0) × (d .mark ≡ 0)
     clean p =
-        let c = same-bits-back s t full long .0 (both p) in
-        (ap correctionNumber is ∙ c .parity, ap (λ (x : Reading). x .indices .sp) is ∙ c .expansion, ap (λ (x : Reading). x .mark) is ∙ c .order)
+        let c = same-bits-back s t full long .0 (both p) in (
+          ap correctionNumber is ∙ c .parity,
+          ap (λ (x : Reading). x .indices .sp) is
+              ∙ c .expansion,
+          ap (λ (x : Reading). x .mark) is ∙ c .order,
+        )
 
     back : (correctionNumber d ≡ 0) × (d .indices .sp ≡ 0) × (d .mark ≡ 0) → (a ≡ Written.Frame) × (u ≡ s)
     back q =
@@ -66,7 +78,9 @@ made : {r : Record} {s w : List ℕ} → Shaped r → Leaves r s Written.Frame w
 made {r} {s} {w} shaped l =
     record {
       shaped = shaped;
-      accepted = subst (λ (n : ℕ). writtenOf r n ≡ Written.Frame) (accepted-only r (length s) (sym (written-is l)) .long) (sym (written-is l));
+      accepted =
+          subst (λ (n : ℕ). writtenOf r n ≡ Written.Frame) (accepted-only r (length s) (sym (written-is l)) .long)
+          (sym (written-is l));
       frame = left r s Written.Frame (written-is l) ∙ sym (left-is l);
     }
 
@@ -86,11 +100,13 @@ one-flip r w e alone damaged d most n held =
 pub two-flips : TwoFlips
 unfolding TwoFlips TwoReported
 two-flips r w e alone damaged d m n two z =
-    two-reported r w e (made (d .shaped) (d .leaves)) (d .flips) m n two (ap correctionNumber (sym (answers-is (d .reads-damaged))) ∙ z)
+    two-reported r w e (made (d .shaped) (d .leaves)) (d .flips) m n two
+    (ap correctionNumber (sym (answers-is (d .reads-damaged))) ∙ z)
 
 pub no-two-frames : NoTwoFrames
 unfolding NoTwoFrames OneFrame
 no-two-frames s t c d full full′ a b same-record same-number =
     one-frame s t full full′
-    (ap (λ (x : Reading). x .indices) (sym (answers-is a)) ∙ same-record ∙ ap (λ (x : Reading). x .indices) (answers-is b))
+    (ap (λ (x : Reading). x .indices) (sym (answers-is a)) ∙ same-record
+    ∙ ap (λ (x : Reading). x .indices) (answers-is b))
     (ap correctionNumber (sym (answers-is a)) ∙ same-number ∙ ap correctionNumber (answers-is b))

@@ -60,18 +60,23 @@ told number tells e = (ap number e, ap tells e)
 
 -- the reader: refused where the bytes are not eighteen, and nowhere else
 module _ (s : List ℕ) where
+  -- eighteen bytes are read
   verdict-is : length s ≡ 18 → readingOf s .verdict ≡ Verdict.Read
   verdict-is e = ap (λ (x : Reading). x .verdict) (read-eighteen s e)
 
+  -- others are not
   verdict-not : (length s ≡ 18 → ⊥) → readingOf s .verdict ≡ Verdict.WrongLength
   verdict-not w = ap (λ (x : Reading). x .verdict) (sym (read-refused s w))
 
+  -- each row's condition gives its number
   reader-at : {k : ℕ} {t : List ℕ} → ReaderTable s k t
       → (frame.readRefusal (readingOf s .verdict) ≡ k) × (frame.readTells (readingOf s .verdict) ≡ t)
   reader-at (read-length w) = told frame.readRefusal frame.readTells (verdict-not w)
   reader-at (read-frame e) = told frame.readRefusal frame.readTells (verdict-is e)
 
-  reader-row : Dec (length s ≡ 18) → ReaderTable s (frame.readRefusal (readingOf s .verdict)) (frame.readTells (readingOf s .verdict))
+  -- each number has a row
+  reader-row : Dec (length s ≡ 18)
+      → ReaderTable s (frame.readRefusal (readingOf s .verdict)) (frame.readTells (readingOf s .verdict))
   reader-row (yes e) = rw (verdict-is e) (read-frame e)
   reader-row (no w) = rw (verdict-not w) (read-length w)
 
@@ -242,9 +247,12 @@ recording-numbers s k t = (
 
 -- the reader at the C boundary, by the two lengths
 module _ (s o : List ℕ) where
-  c-read-is : length s ≡ 18 → length o ≡ 56 → readResult s (length o) ≡ pos (16 * readingOf s .mark + correctionNumber (readingOf s))
+  -- both right: the mark and the number
+  c-read-is : length s ≡ 18 → length o ≡ 56
+      → readResult s (length o) ≡ pos (16 * readingOf s .mark + correctionNumber (readingOf s))
   c-read-is e l = read-result-is s o (verdict-is s e) l
 
+  -- one wrong: -1
   c-read-not : ((length s ≡ 18) × (length o ≡ 56) → ⊥) → readResult s (length o) ≡ negℤ (pos 1)
   unfolding readResult
   c-read-not w = go (ℕ-discrete (length o) 56) (ℕ-discrete (length s) 18)
@@ -254,14 +262,18 @@ module _ (s o : List ℕ) where
       go (yes l) (no v) = rw (eq-eqb (length o) 56 l, verdict-not s v)
       go (no v) e = rw (ne-eqb (length o) 56 v)
 
+  -- each row's condition gives its result
   c-read-at : {z : ℤ} → ReadResults s o z → readResult s (length o) ≡ z
   c-read-at (c-read-length w) = c-read-not w
   c-read-at (c-read-frame e l) = c-read-is e l
 
+  -- each result has a row
   c-read-row : Dec (length s ≡ 18) → Dec (length o ≡ 56) → ReadResults s o (readResult s (length o))
   c-read-row (yes e) (yes l) = rw (c-read-is e l) (c-read-frame e l)
-  c-read-row (yes e) (no v) = let w : (length s ≡ 18) × (length o ≡ 56) → ⊥ = λ p. v (p .1) in rw (c-read-not w) (c-read-length w)
-  c-read-row (no v) l = let w : (length s ≡ 18) × (length o ≡ 56) → ⊥ = λ p. v (p .0) in rw (c-read-not w) (c-read-length w)
+  c-read-row (yes e) (no v) =
+      let w : (length s ≡ 18) × (length o ≡ 56) → ⊥ = λ p. v (p .1) in rw (c-read-not w) (c-read-length w)
+  c-read-row (no v) l =
+      let w : (length s ≡ 18) × (length o ≡ 56) → ⊥ = λ p. v (p .0) in rw (c-read-not w) (c-read-length w)
 
 pub read-result-numbers : ReadResultNumbers
 unfolding ReadResultNumbers
@@ -270,20 +282,28 @@ read-result-numbers s o z =
 
 -- the writer at the C boundary: the record's length, then as the writer answers
 module _ (s o : List ℕ) where
+  -- what the writer answers of the record in the bytes
   abbrev asked : Written
   asked = writtenOf (recordIn s) (length o)
 
-  c-write-is : (a : Written) → length s ≡ 56 → WriterGives (recordIn s) (length o) a → writeResult s (length o) ≡ refused (frame.refusalOf a)
-  c-write-is a l g = result-is s o l ∙ ap (λ (x : Written). refused (frame.refusalOf x)) (writer-is (recordIn s) (length o) a g)
+  -- the result of an answer that is given
+  c-write-is : (a : Written) → length s ≡ 56 → WriterGives (recordIn s) (length o) a
+      → writeResult s (length o) ≡ refused (frame.refusalOf a)
+  c-write-is a l g =
+      result-is s o l ∙ ap (λ (x : Written). refused (frame.refusalOf x)) (writer-is (recordIn s) (length o) a g)
 
+  -- the record's length wrong: -1
   c-write-not : (length s ≡ 56 → ⊥) → writeResult s (length o) ≡ negℤ (pos 1)
   unfolding writeResult
   c-write-not w = rw (ne-eqb (length s) 56 w)
 
-  c-write-short : ((length s ≡ 56) × (length o ≡ 18) → ⊥) → Dec (length s ≡ 56) → writeResult s (length o) ≡ negℤ (pos 1)
+  -- one of the lengths wrong: -1
+  c-write-short : ((length s ≡ 56) × (length o ≡ 18) → ⊥) → Dec (length s ≡ 56)
+      → writeResult s (length o) ≡ negℤ (pos 1)
   c-write-short w (yes l) = c-write-is Written.WrongLength l (λ e. w (l, e))
   c-write-short w (no v) = c-write-not v
 
+  -- each row's condition gives its result
   c-write-at : {z : ℤ} → WriteResults s o z → writeResult s (length o) ≡ z
   c-write-at (c-write-length w) = c-write-short w (ℕ-discrete (length s) 56)
   c-write-at (c-write-index f l e g) = c-write-is (Written.TooLarge f) l (e, g)
@@ -291,13 +311,16 @@ module _ (s o : List ℕ) where
   c-write-at (c-write-expansion l e fit order sp) = c-write-is Written.Expansion l (e, fit, order, sp)
   c-write-at (c-write-frame l e fit order sp) = c-write-is Written.Frame l (e, fit, order, sp)
 
-  c-given : (a : Written) → length s ≡ 56 → WriterGives (recordIn s) (length o) a → WriteResults s o (refused (frame.refusalOf a))
+  -- each answer has a row
+  c-given : (a : Written) → length s ≡ 56 → WriterGives (recordIn s) (length o) a
+      → WriteResults s o (refused (frame.refusalOf a))
   c-given Written.WrongLength l w = c-write-length (λ p. w (p .1))
   c-given (Written.TooLarge f) l (e, g) = c-write-index f l e g
   c-given (Written.Falling m) l (e, fit, g) = c-write-fall m l e fit g
   c-given Written.Expansion l (e, fit, order, sp) = c-write-expansion l e fit order sp
   c-given Written.Frame l (e, fit, order, sp) = c-write-frame l e fit order sp
 
+  -- each result has a row
   c-write-row : Dec (length s ≡ 56) → WriteResults s o (writeResult s (length o))
   unfolding WriterRefuses
   c-write-row (yes l) = rw (result-is s o l) (c-given asked l (writer-refuses (recordIn s) (length o) asked .0 refl))
@@ -305,4 +328,5 @@ module _ (s o : List ℕ) where
 
 pub write-result-numbers : WriteResultNumbers
 unfolding WriteResultNumbers
-write-result-numbers s o z = (λ e. subst (WriteResults s o) e (c-write-row s o (ℕ-discrete (length s) 56)), c-write-at s o)
+write-result-numbers s o z =
+    (λ e. subst (WriteResults s o) e (c-write-row s o (ℕ-discrete (length s) 56)), c-write-at s o)

@@ -22,18 +22,23 @@ use Rattle.frame.specs.Frame.{placeAt, bitAt, packed, indexIn}
 use Rattle.frame.specs.Answers.{readingOf, correctionNumber, recordMark}
 use Rattle.frame.proofs.Fields.{place-first, field-of-place, bit-of-place}
 use Rattle.frame.proofs.Gathered.{bitAt-small}
-use Rattle.frame.proofs.Mended.{guarded-field-small, guarded-bit-small, guarded-place, field-of-guarded, mended-same, mended-there}
+use Rattle.frame.proofs.Mended.{guarded-field-small, guarded-bit-small, guarded-place, field-of-guarded, mended-same}
+use Rattle.frame.proofs.Mended.{mended-there}
 use Rattle.frame.proofs.Laws.{bits-width, packed-byte, length-packed, number-none, number-below, nowhere}
 use Rattle.promises.specs.Frames.{Eighteen, flipped, NoneGuarded}
 use Rattle.promises.specs.Worked.{only, isIn}
-use Rattle.promises.specs.Repairs.{FifteenPlaces, readBit, AsItCame, CleanChangesNothing, ParityNumber, one, two, four, eight, ParityHitChangesNothing, DataHitInvertsOne, TwoNeverMended, UnguardedUnseen, ThreeUnseen}
+use Rattle.promises.specs.Repairs.{FifteenPlaces, readBit, AsItCame, CleanChangesNothing, ParityNumber, one, two}
+use Rattle.promises.specs.Repairs.{four, eight, ParityHitChangesNothing, DataHitInvertsOne, TwoNeverMended}
+use Rattle.promises.specs.Repairs.{UnguardedUnseen, ThreeUnseen}
 use Rattle.promises.proofs.Frames.{read-number, read-bit, flips-bit, flips-number, two-third}
 
 -- a bit at another place than the number's is read as it came
 module _ (s : List ℕ) (full : Eighteen s) (f i : ℕ) (a : 1 ≤ f) (l : f ≤ 28) (w : i < widthOf f) where
+  -- the bit is one of the field's
   wide : i < bitsIn f
   wide = rw (bits-width f a) w
 
+  -- any place but that of the number
   as-it-came : (placeOf f i ≡ guardedPlace (correctionNumber (readingOf s)) → ⊥) → AsItCame s f i
   as-it-came apart =
       read-bit s (full .long) f i a l w
@@ -45,8 +50,10 @@ module _ (s : List ℕ) (full : Eighteen s) (f i : ℕ) (a : 1 ≤ f) (l : f ≤
 
   -- no field has a place of number 0, nor one of a parity bit
   off-zero : placeOf f i ≡ guardedPlace 0 → ⊥
-  off-zero e = let p = place-first f i (omega arith) wide in let z : placeOf f i ≡ 0 = e ∙ nowhere in omega (arith, p, z)
+  off-zero e =
+      let p = place-first f i (omega arith) wide in let z : placeOf f i ≡ 0 = e ∙ nowhere in omega (arith, p, z)
 
+  -- nor has a field the place of a parity bit
   off-parity : (n : ℕ) → ParityNumber n → placeOf f i ≡ guardedPlace n → ⊥
   off-parity n p e =
       let z : f ≡ 0 = sym of-field ∙ ap fieldAt e ∙ none n p in
@@ -70,12 +77,16 @@ parity-hit-changes-nothing s full p f i a l w =
 
 -- a number of 1 to 15 whose guarded bit is in no field is one of the four
 parity-rule : ℕ → Bool
-parity-rule n = cond (eqb (fieldOf (guardedName n)) 0) (cond (eqb n 0) true (cond (eqb n 1) true (cond (eqb n 2) true (cond (eqb n 4) true (eqb n 8))))) true
+parity-rule n =
+    cond (eqb (fieldOf (guardedName n)) 0)
+    (cond (eqb n 0) true (cond (eqb n 1) true (cond (eqb n 2) true (cond (eqb n 4) true (eqb n 8))))) true
 
+-- it passes at all sixteen
 parity-rule-holds : T (allBelow 16 parity-rule)
 unfolding parity-rule
 parity-rule-holds = tt
 
+-- so any other number is that of a field's bit
 data-number : (n : ℕ) → n < 16 → (n ≡ 0 → ⊥) → (ParityNumber n → ⊥) → 1 ≤ fieldOf (guardedName n)
 unfolding parity-rule
 data-number n h z p = go (ℕ-discrete (fieldOf (guardedName n)) 0)
@@ -106,8 +117,11 @@ data-hit-inverts-one s full n is z p = record {
   bit-within = within;
   there =
       read-bit s (full .long) F K first last within
-      ∙ mended-there (bitAt s) (placeOf F K) (sym (guarded-place n from upto) ∙ ap guardedPlace (sym is ∙ read-number s (full .long)));
-  elsewhere = λ g j a l w other. as-it-came s full g j a l w (λ e. other (same g j a l w (e ∙ ap guardedPlace is ∙ guarded-place n from upto)));
+      ∙ mended-there (bitAt s) (placeOf F K)
+      (sym (guarded-place n from upto) ∙ ap guardedPlace (sym is ∙ read-number s (full .long)));
+  elsewhere =
+      λ g j a l w other. as-it-came s full g j a l w (λ e. other (same g j a l w (e ∙ ap guardedPlace is
+      ∙ guarded-place n from upto)));
 }
   where
     F : ℕ
@@ -145,7 +159,8 @@ data-hit-inverts-one s full n is z p = record {
 
 pub two-never-mended : TwoNeverMended
 unfolding TwoNeverMended
-two-never-mended r w e made full m n both = (λ z. two-third e m n both .0 (same ∙ z), λ z. two-third e m n both .1 (same ∙ z))
+two-never-mended r w e made full m n both =
+    (λ z. two-third e m n both .0 (same ∙ z), λ z. two-third e m n both .1 (same ∙ z))
   where
     same : number (bitAt e) ≡ correctionNumber (readingOf (flipped w e))
     same = sym (read-number e (full .long)) ∙ sym (flips-number r w made e full)
@@ -155,7 +170,8 @@ module _ (e : List ℕ) (full : Eighteen e) (spared : NoneGuarded e) where
   none-flipped : correctionNumber (readingOf e) ≡ 0
   none-flipped =
       read-number e (full .long)
-      ∙ number-none (bitAt e) (bitAt-small e) 1 (omega arith) (omega arith) (λ n a l w. spared n (record { from = a; upto = l }))
+      ∙ number-none (bitAt e) (bitAt-small e) 1 (omega arith) (omega arith)
+      (λ n a l w. spared n (record { from = a; upto = l }))
       (spared 1 (record { from = omega arith; upto = omega arith }))
 
 pub unguarded-unseen : UnguardedUnseen
@@ -163,21 +179,25 @@ unfolding UnguardedUnseen CleanChangesNothing
 unguarded-unseen r w e made full spared = (
   flips-number r w made e full ∙ none-flipped e full spared,
   λ f i a l h. flips-bit r w made e full f i a l h
-      ∙ ap (λ (x : ℕ). (bit (indexOf r f) i + x) % 2) (clean-changes-nothing e full (none-flipped e full spared) f i a l h),
+      ∙ ap (λ (x : ℕ). (bit (indexOf r f) i + x) % 2)
+      (clean-changes-nothing e full (none-flipped e full spared) f i a l h),
 )
 
 -- three flips whose numbers cancel
 three : List ℕ
 three = only (21 ∷ 51 ∷ 11 ∷ [])
 
+-- their number is 0
 three-number : correctionNumber (readingOf three) ≡ 0
 unfolding three lowestFrom tabulateFrom total fromBits places seek guardedPlace number mended placeAt bitAt packed indexIn readingOf recordMark hzTable hertzOf markOf
 three-number = refl
 
+-- and PD(1)-5 is read as 1
 three-bit : readBit three 11 5 ≡ 1
 unfolding three lowestFrom tabulateFrom total fromBits places seek guardedPlace number mended placeAt bitAt packed indexIn readingOf recordMark hzTable hertzOf markOf
 three-bit = refl
 
+-- a place is in a list or not
 is-bit : (p : ℕ) (l : List ℕ) → isIn p l < 2
 is-bit p [] = omega arith
 is-bit p (q ∷ qs) = go (eqb p q) (is-bit p qs)
@@ -186,6 +206,7 @@ is-bit p (q ∷ qs) = go (eqb p q) (is-bit p qs)
     go true rest = omega arith
     go false rest = rest
 
+-- they are eighteen bytes
 three-eighteen : Eighteen three
 unfolding three
 three-eighteen = record { long = length-packed set; bytes = packed-byte set (λ p. is-bit p (21 ∷ 51 ∷ 11 ∷ [])) }

@@ -1,5 +1,6 @@
--- The C boundary (document 01, "What the work covers"): "the record as 28 byte pairs (16 bits, little-endian, in field order). The
--- reader's C result is 16 times the order mark plus the correction number, the writer's is 0; a refusal is minus its number."
+-- The C boundary (document 01, "What the work covers"): "the record as 28 byte pairs (16 bits, little-endian, in
+-- field order). The reader's C result is 16 times the order mark plus the correction number, the writer's is 0; a
+-- refusal is minus its number."
 use mathlib.Core.Path.{_≡_}
 use mathlib.Core.List.{List}
 use Prim.Native.Nat.{ℕ, _/_, _%_, _<_}

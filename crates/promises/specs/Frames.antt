@@ -1,5 +1,5 @@
--- The second and the third demand for frames. Each statement is about the definitions that the contracts of `frame::read` and
--- `frame::write` cite; proofs/Frames.antt shows each and carries it to the two functions.
+-- The second and the third demand for frames. Each statement is about the definitions that the contracts of
+-- `frame::read` and `frame::write` cite; proofs/Frames.antt shows each and carries it to the two functions.
 use mathlib.Core.Path.{_≡_}
 use mathlib.Core.List.{List}
 use mathlib.Core.Logic.{_↔_}
@@ -34,8 +34,8 @@ ReadsBack =
     (r : Record) (s : List ℕ) → Shaped r → writtenOf r (length s) ≡ Written.Frame
     → readingOf (frameLeft r s) ≡ record { verdict = Verdict.Read; indices = r; number = 0; mark = 0 }
 
--- "A frame that is read writes back to the same bits exactly when its parity was clean, its expansion bit 0 and its parameters in
--- order", whatever the lent buffer t held.
+-- "A frame that is read writes back to the same bits exactly when its parity was clean, its expansion bit 0 and its
+-- parameters in order", whatever the lent buffer t held.
 pub record WritesBack (s t : List ℕ) : Type 0 where
   pub accepted : writtenOf (readingOf s .indices) (length t) ≡ Written.Frame
   pub same : frameLeft (readingOf s .indices) t ≡ s
@@ -60,11 +60,13 @@ flipped w e = tabulate (λ k. bitXor (getD w k 0) (getD e k 0)) 18
 
 -- what is read in a flipped frame, beside the written record and what is read in the flips alone
 pub record OfTheFlips (written : Record) (alone damaged : Reading) : Type 0 where
-  pub indices : (f : ℕ) → 1 ≤ f → f ≤ 28 → indexOf (damaged .indices) f ≡ bitXor (indexOf written f) (indexOf (alone .indices) f)
+  pub indices : (f : ℕ) → 1 ≤ f → f ≤ 28
+      → indexOf (damaged .indices) f ≡ bitXor (indexOf written f) (indexOf (alone .indices) f)
   pub number : correctionNumber damaged ≡ correctionNumber alone
 
--- "Take a frame our writer made and flip any set of its bits. The indices then read are the written ones, with exactly those bits
--- reversed that come out as 1 when the flips alone are read as a frame; the correction number reported is the one for the flips alone."
+-- "Take a frame our writer made and flip any set of its bits. The indices then read are the written ones, with
+-- exactly those bits reversed that come out as 1 when the flips alone are read as a frame; the correction number
+-- reported is the one for the flips alone."
 unfoldable pub DamageAlone : Type 0
 DamageAlone = (r : Record) (w e : List ℕ) → Made r w → Eighteen e → OfTheFlips r (readingOf e) (readingOf (flipped w e))
 
@@ -115,14 +117,16 @@ TwoReported =
     (r : Record) (w e : List ℕ) → Made r w → Eighteen e → (m n : ℕ) → ExactlyTwo e m n
     → correctionNumber (readingOf (flipped w e)) ≡ 0 → ⊥
 
--- Every eighteen bytes have a reading, and no two frames have the same one: record and correction number together tell the frame.
+-- Every eighteen bytes have a reading, and no two frames have the same one: record and correction number together
+-- tell the frame.
 unfoldable pub EveryFrameRead : Type 0
 EveryFrameRead = (s : List ℕ) → Eighteen s → readingOf s .verdict ≡ Verdict.Read
 
 unfoldable pub OneFrame : Type 0
 OneFrame =
     (s t : List ℕ) → Eighteen s → Eighteen t
-    → readingOf s .indices ≡ readingOf t .indices → correctionNumber (readingOf s) ≡ correctionNumber (readingOf t) → s ≡ t
+    → readingOf s .indices ≡ readingOf t .indices → correctionNumber (readingOf s) ≡ correctionNumber (readingOf t)
+    → s ≡ t
 
 -- So a record comes from sixteen frames, one for each number.
 pub record Comes (r : Record) (n : ℕ) : Type 0 where

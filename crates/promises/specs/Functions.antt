@@ -1,5 +1,5 @@
--- The promises about frames said of the two functions themselves: of any answer and any bytes left that the contracts of
--- `frame::write` and `frame::read` allow.
+-- The promises about frames said of the two functions themselves: of any answer and any bytes left that the contracts
+-- of `frame::write` and `frame::read` allow.
 use mathlib.Core.Path.{_≡_}
 use mathlib.Core.List.{List}
 use mathlib.Core.Logic.{_↔_}
@@ -51,7 +51,8 @@ ReadThenWrite =
     (s t u : List ℕ) (d : Reading) (a : Written) → Eighteen s → length t ≡ 18 → Answers s d → Leaves (d .indices) t a u
     → ((a ≡ Written.Frame) × (u ≡ s)) ↔ ((correctionNumber d ≡ 0) × (d .indices .sp ≡ 0) × (d .mark ≡ 0))
 
--- a frame w that `write` left of the record r, the flips e, and what `read` answers on the flips alone and on the flipped frame
+-- a frame w that `write` left of the record r, the flips e, and what `read` answers on the flips alone and on the
+-- flipped frame
 pub record Damaged (r : Record) (w e : List ℕ) (alone damaged : Reading) : Type 0 where
   pub shaped : Shaped r
   pub buffer : List ℕ
@@ -60,9 +61,11 @@ pub record Damaged (r : Record) (w e : List ℕ) (alone damaged : Reading) : Typ
   pub reads-alone : Answers e alone
   pub reads-damaged : Answers (flipped w e) damaged
 
--- in each of the 28 fields the index read is the written one, exclusive or that of the flips alone; the number is that of the flips alone
+-- in each of the 28 fields the index read is the written one, exclusive or that of the flips alone; the number is
+-- that of the flips alone
 unfoldable pub RepairByDamage : Type 0
-RepairByDamage = (r : Record) (w e : List ℕ) (alone damaged : Reading) → Damaged r w e alone damaged → OfTheFlips r alone damaged
+RepairByDamage =
+    (r : Record) (w e : List ℕ) (alone damaged : Reading) → Damaged r w e alone damaged → OfTheFlips r alone damaged
 
 -- with no more than one guarded place flipped, each guarded data bit read is the written one
 unfoldable pub OneFlip : Type 0

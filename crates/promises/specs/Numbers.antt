@@ -112,11 +112,12 @@ RecordingNumbers =
     → (((judgedRefusal (judgedOf s) ≡ k) × (judgedTells (judgedOf s) ≡ t)) ↔ RecordingTable s k t)
     × (((walkedRefusal (walkedOf s) ≡ k) × (walkedTells (walkedOf s) ≡ t)) ↔ RecordingTable s k t)
 
--- the C boundary: a result is minus the refusal's number. The reader's, of the bytes of a frame and a buffer for the record; where both
--- have their length it is 16 times the order mark plus the correction number
+-- the C boundary: a result is minus the refusal's number. The reader's, of the bytes of a frame and a buffer for the
+-- record; where both have their length it is 16 times the order mark plus the correction number
 pub data ReadResults (s o : List ℕ) : ℤ → Type 0 where
   c-read-length : ((length s ≡ 18) × (length o ≡ 56) → ⊥) → ReadResults s o (negℤ (pos 1))
-  c-read-frame : length s ≡ 18 → length o ≡ 56 → ReadResults s o (pos (16 * readingOf s .mark + correctionNumber (readingOf s)))
+  c-read-frame : length s ≡ 18 → length o ≡ 56
+      → ReadResults s o (pos (16 * readingOf s .mark + correctionNumber (readingOf s)))
 
 unfoldable pub ReadResultNumbers : Type 0
 ReadResultNumbers = (s o : List ℕ) (z : ℤ) → (readResult s (length o) ≡ z) ↔ ReadResults s o z
@@ -124,7 +125,8 @@ ReadResultNumbers = (s o : List ℕ) (z : ℤ) → (readResult s (length o) ≡ 
 -- the writer's, of the bytes of a record and a buffer for the frame
 pub data WriteResults (s o : List ℕ) : ℤ → Type 0 where
   c-write-length : ((length s ≡ 56) × (length o ≡ 18) → ⊥) → WriteResults s o (negℤ (pos 1))
-  c-write-index : (f : ℕ) → length s ≡ 56 → length o ≡ 18 → LowestTooLarge (recordIn s) f → WriteResults s o (negℤ (pos 2))
+  c-write-index : (f : ℕ) → length s ≡ 56 → length o ≡ 18 → LowestTooLarge (recordIn s) f
+      → WriteResults s o (negℤ (pos 2))
   c-write-fall : (m : ℕ) → length s ≡ 56 → length o ≡ 18 → AllFit (recordIn s) → LowestFall (recordIn s) m
       → WriteResults s o (negℤ (pos 3))
   c-write-expansion : length s ≡ 56 → length o ≡ 18 → AllFit (recordIn s) → Ordered (recordIn s) → recordIn s .sp ≡ 1

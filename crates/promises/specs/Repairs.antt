@@ -1,5 +1,5 @@
--- What a correction number does to what is read (document 01, "Parity and correction"), and what no number shows. The handbook quotes
--- these; each is about the definitions that the contract of `frame::read` cites.
+-- What a correction number does to what is read (document 01, "Parity and correction"), and what no number shows. The
+-- handbook quotes these; each is about the definitions that the contract of `frame::read` cites.
 use mathlib.Core.Path.{_≡_}
 use mathlib.Core.List.{List, [], _∷_}
 use Prim.Native.Nat.{ℕ, _+_, _%_, _<_, _≤_}
@@ -33,7 +33,8 @@ AsItCame s f i = readBit s f i ≡ bitAt s (placeOf f i)
 -- "0 changes nothing"
 unfoldable pub CleanChangesNothing : Type 0
 CleanChangesNothing =
-    (s : List ℕ) → Eighteen s → correctionNumber (readingOf s) ≡ 0 → (f i : ℕ) → 1 ≤ f → f ≤ 28 → i < widthOf f → AsItCame s f i
+    (s : List ℕ) → Eighteen s → correctionNumber (readingOf s) ≡ 0 → (f i : ℕ) → 1 ≤ f → f ≤ 28 → i < widthOf f
+    → AsItCame s f i
 
 -- "1, 2, 4, 8 change no data bit"
 pub data ParityNumber : ℕ → Type 0 where
@@ -71,10 +72,11 @@ unfoldable pub UnguardedUnseen : Type 0
 UnguardedUnseen =
     (r : Record) (w e : List ℕ) → Made r w → Eighteen e → NoneGuarded e
     → (correctionNumber (readingOf (flipped w e)) ≡ 0)
-    × ((f i : ℕ) → 1 ≤ f → f ≤ 28 → i < widthOf f → readBit (flipped w e) f i ≡ (bit (indexOf r f) i + bitAt e (placeOf f i)) % 2)
+    × ((f i : ℕ) → 1 ≤ f → f ≤ 28 → i < widthOf f
+    → readBit (flipped w e) f i ≡ (bit (indexOf r f) i + bitAt e (placeOf f i)) % 2)
 
--- Three flips among the fifteen can give number 0: those of places 21, 51 and 11 (numbers 1, 2 and 3) do in every frame our writer made,
--- and PD(1)-5 is then read wrong.
+-- Three flips among the fifteen can give number 0: those of places 21, 51 and 11 (numbers 1, 2 and 3) do in every
+-- frame our writer made, and PD(1)-5 is then read wrong.
 unfoldable pub ThreeUnseen : Type 0
 ThreeUnseen =
     (r : Record) (w : List ℕ) → Made r w

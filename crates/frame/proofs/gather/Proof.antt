@@ -26,8 +26,10 @@ slice-aggregate-add-byte-2 c = sym (ap length (c .before .before .before .loop .
 add-byte-requires : tie.Need-add-byte-requires Inv-loop μ-loop
 add-byte-requires c κs =
     let at-test = c .before .before in
-    let at-table = at-test .before .before in
-    (omega (arith, at-table .before .before .pre, at-test .loop-test .taken), (at-test .loop-test .taken, (at-table .table .ensures, at-test .before .loop .inv .0)))
+    let at-table = at-test .before .before in (
+      omega (arith, at-table .before .before .pre, at-test .loop-test .taken),
+      (at-test .loop-test .taken, (at-table .table .ensures, at-test .before .loop .inv .0)),
+    )
 
 loop-again : tie.Need-loop-again Inv-loop μ-loop
 loop-again c = (c .before .add-byte .ensures, omega (arith, c .before .before .before .before .loop-test .taken))
@@ -38,5 +40,6 @@ returns c = indices-all _ _ (c .loop-test .left) (c .before .loop .inv .1) (c .b
 pub gather-spec : {M : Type 1} → statement M
 gather-spec =
     tie.close
-    (tie.spec Inv-loop μ-loop (λ c κs. tt) loop-holds (search needs) slice-aggregate-add-byte-2 add-byte-requires (λ c. omega arith) (λ c. omega arith)
+    (tie.spec Inv-loop μ-loop (λ c κs. tt) loop-holds (search needs) slice-aggregate-add-byte-2 add-byte-requires
+    (λ c. omega arith) (λ c. omega arith)
     loop-again returns)

@@ -17,7 +17,8 @@ returns-2 : tie.Need-returns-2
 returns-2 c =
     let at-mend = c .before .before in
     let at-gather = at-mend .before .before in
-    read-whole _ _ _ (at-gather .gather .ensures) (at-mend .before .number-of .ensures) _ _ _ (at-gather .before .if1 .left)
+    read-whole _ _ _ (at-gather .gather .ensures) (at-mend .before .number-of .ensures) _ _ _
+    (at-gather .before .if1 .left)
     (at-mend .mend .ensures) (c .before .to-record .ensures) (c .mark-of .ensures)
 
 pub read-spec : {M : Type 1} → statement M

@@ -41,11 +41,15 @@ loop2-again c = filled-more 0 _ 16 _ _ _ (c .before .loop2 .inv) (c .loop2-test 
 returns : tie.Need-returns Inv-loop μ-loop Inv-loop2 μ-loop2
 returns c =
     let after = c .before .before in
-    taken-whole (after .before .before .args .t1) (after .before .loop .inv) (after .loop-test .left) (c .before .loop2 .inv) (c .loop2-test .left)
+    taken-whole (after .before .before .args .t1) (after .before .loop .inv) (after .loop-test .left)
+    (c .before .loop2 .inv) (c .loop2-test .left)
 
 pub to-record-spec : {M : Type 1} → statement M
 to-record-spec =
     tie.close
-    (tie.spec Inv-loop μ-loop Inv-loop2 μ-loop2 loop-holds (λ c. omega arith) (λ c. omega arith) (λ c. omega arith) (λ c. omega arith)
-    array-write-lsp (λ c. omega arith) (λ c. omega arith) loop-again loop2-holds (λ c. omega arith) (λ c. omega arith) (λ c. omega arith)
-    (λ c. omega arith) array-write-subframes (λ c. omega arith) (λ c. omega arith) loop2-again (λ c. omega arith) (λ c. omega arith) returns)
+    (tie.spec Inv-loop μ-loop Inv-loop2 μ-loop2 loop-holds (λ c. omega arith) (λ c. omega arith) (λ c. omega arith)
+    (λ c. omega arith)
+    array-write-lsp (λ c. omega arith) (λ c. omega arith) loop-again loop2-holds (λ c. omega arith)
+    (λ c. omega arith) (λ c. omega arith)
+    (λ c. omega arith) array-write-subframes (λ c. omega arith) (λ c. omega arith) loop2-again (λ c. omega arith)
+    (λ c. omega arith) returns)

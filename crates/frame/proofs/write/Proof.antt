@@ -1,7 +1,6 @@
 -- `frame::write` meets its contract: the refusals in their order, then the frame.
 -- Assumes nothing.
 use mathlib.Core.Path.{_≡_, _∙_, sym}
-use native.Mathlib.Omega.{arith}
 use borrow.Author.Needs.{needs}
 use Rattle.record.specs.Fields.{tooLarge}
 use Rattle.frame.specs.Answers.{recordMark}
@@ -20,12 +19,14 @@ returns : tie.Need-returns
 returns c = answered _ _ _ (wrong-length _ _ (c .if1 .taken))
 
 returns-2 : tie.Need-returns-2
-returns-2 c = answered _ _ _ (too-large _ _ (c .before .before .if1 .left) _ (c .before .too-large .ensures) (c .if2 .taken))
+returns-2 c =
+    answered _ _ _ (too-large _ _ (c .before .before .if1 .left) _ (c .before .too-large .ensures) (c .if2 .taken))
 
 returns-3 : tie.Need-returns-3
 returns-3 c =
     let at-large = c .before .before in
-    answered _ _ _ (falling _ _ (at-large .before .before .if1 .left) (fits at-large) _ (c .before .mark-of .ensures) (c .if3 .taken))
+    answered _ _ _ (falling _ _ (at-large .before .before .if1 .left) (fits at-large) _
+    (c .before .mark-of .ensures) (c .if3 .taken))
 
 returns-4 : tie.Need-returns-4
 returns-4 c =
@@ -39,7 +40,8 @@ returns-5 c =
     let at-sp = at-lay .before .before in
     let at-mark = at-sp .before .before in
     let at-large = at-mark .before .before in
-    laid _ _ _ (accepted _ _ (at-large .before .before .if1 .left) (fits at-large) (order at-mark) (at-sp .if4 .left)) (at-lay .lay .ensures)
+    laid _ _ _ (accepted _ _ (at-large .before .before .if1 .left) (fits at-large) (order at-mark)
+    (at-sp .if4 .left)) (at-lay .lay .ensures)
 
 pub write-spec : {M : Type 1} → statement M
 write-spec =
