@@ -21,6 +21,7 @@ use Rattle.frame.proofs.Places.{length-places, field-below, bit-in-fiel
 here-first : ℕ → Name → Bool
 here-first k x = eqb (placeOf (fieldOf x) (bitOf x)) (suc k)
 
+-- it passes at every place
 all-first : T (every here-first 0 places)
 unfolding here-first places seek
 all-first = tt
@@ -29,15 +30,18 @@ all-first = tt
 found-at : ℕ → ℕ → ℕ → Bool
 found-at f i p = both (leb 1 p) (both (leb p 144) (both (eqb (fieldAt p) f) (eqb (bitIn p) i)))
 
+-- the test at all bits of one field
 found : ℕ → Bool
 found f = allBelow (bitsIn f) (λ (i : ℕ). found-at f i (placeOf f i))
 
+-- it passes at every field
 all-found : T (allBelow 29 found)
 unfolding found found-at places seek
 all-found = tt
 
 -- the place of a bit of a field
 module _ (f i : ℕ) (h : f < 29) (l : i < bitsIn f) where
+  -- it stands at one of the 144, in that field, as that bit
   told : (1 ≤ placeOf f i) × (placeOf f i ≤ 144) × (fieldAt (placeOf f i) ≡ f) × (bitIn (placeOf f i) ≡ i)
   unfolding found found-at
   told =
@@ -63,10 +67,12 @@ pub field-small : (p : ℕ) → 1 ≤ p → p ≤ 144 → fieldAt p < 29
 field-small zero a h = absurd (omega arith)
 field-small (suc k) a h = rw (sub-one (suc k)) (field-below k h)
 
+-- it is one of the bits of its field
 pub bit-small : (p : ℕ) → 1 ≤ p → p ≤ 144 → bitIn p < bitsIn (fieldAt p)
 bit-small zero a h = absurd (omega arith)
 bit-small (suc k) a h = rw (sub-one (suc k)) (bit-in-field k h)
 
+-- and the place of that bit is the place itself
 pub place-of-here : (p : ℕ) → 1 ≤ p → p ≤ 144 → placeOf (fieldAt p) (bitIn p) ≡ p
 unfolding here-first
 place-of-here zero a h = absurd (omega arith)
@@ -75,6 +81,7 @@ place-of-here (suc k) a h =
     (eqb→eq (placeOf (fieldOf (getD places k (HP 0))) (bitOf (getD places k (HP 0)))) (suc k)
     (at (HP 0) here-first places all-first k (subst (λ (n : ℕ). k < n) (sym length-places) h)))
 
+-- so the bits of a field are scattered over its places, each once
 pub scattered : (f : ℕ) → f < 29 → Scattered 144 fieldAt bitIn f (bitsIn f) (placeOf f)
 scattered f h =
     record {
@@ -88,12 +95,15 @@ scattered f h =
 
 -- an index read is the number with the bits at the field's places
 module _ (b : ℕ → ℕ) (f : ℕ) (h : f < 29) where
-  pub value-collected : indexIn b f ≡ fromBits (λ i. b (placeOf f i)) (bitsIn f)
+  pub index-collected : indexIn b f ≡ fromBits (λ i. b (placeOf f i)) (bitsIn f)
   unfolding indexIn
-  value-collected = collected (scattered f h) b
+  index-collected = collected (scattered f h) b
 
-  pub value-small : ((p : ℕ) → b p < 2) → indexIn b f < 2 ^ bitsIn f
-  value-small bits = rw value-collected (fromBits-lt (λ i. b (placeOf f i)) (bitsIn f) (λ i l. bits (placeOf f i)))
+  -- it has no more bits than the field
+  pub index-small : ((p : ℕ) → b p < 2) → indexIn b f < 2 ^ bitsIn f
+  index-small bits = rw index-collected (fromBits-lt (λ i. b (placeOf f i)) (bitsIn f) (λ i l. bits (placeOf f i)))
 
-  pub value-bit : ((p : ℕ) → b p < 2) → (i : ℕ) → i < bitsIn f → bit (indexIn b f) i ≡ b (placeOf f i)
-  value-bit bits i l = rw value-collected (bit-fromBits (λ i. b (placeOf f i)) (bitsIn f) i (λ k m. bits (placeOf f k)) l)
+  -- and its bit i is the bit at the place of bit i
+  pub index-bit : ((p : ℕ) → b p < 2) → (i : ℕ) → i < bitsIn f → bit (indexIn b f) i ≡ b (placeOf f i)
+  index-bit bits i l =
+      rw index-collected (bit-fromBits (λ i. b (placeOf f i)) (bitsIn f) i (λ k m. bits (placeOf f k)) l)

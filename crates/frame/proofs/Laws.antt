@@ -1,5 +1,5 @@
--- Laws about the bits of a frame, for whoever reasons about reading and writing: packing, what reading depends on, the parity of a
--- written frame, and flips.
+-- Laws about the bits of a frame, for whoever reasons about reading and writing: packing, what reading depends on,
+-- the parity of a written frame, and flips.
 -- Assumes nothing.
 use mathlib.Core.Path.{_≡_, _∙_, sym, refl, ap}
 use mathlib.Core.Bool.{cond}
@@ -21,10 +21,14 @@ use Rattle.record.specs.declared.Record.{Record}
 use Rattle.record.proofs.Laws.{index-given}
 use Rattle.frame.specs.Places.{fieldAt, bitIn, bitsIn, placeOf}
 use Rattle.frame.specs.Parity.{guardedPlace, check, number, inverted, mended}
-use Rattle.frame.specs.Frame.{byteOf, shiftOf, placeAt, bitAt, packed, share, indexIn, recordOf, sent, withParity, parityOf}
-use Rattle.frame.proofs.Order.{byte-small, shift-small, place-back, there-first, there-last, byte-there, shift-there}
-use Rattle.frame.proofs.Fields.{value-collected, value-bit, field-small, bit-small, place-of-here, field-of-place, bit-of-place}
-use Rattle.frame.proofs.Mended.{guardedField, guardedBit, guarded-first, guarded-last, field-of-guarded, bit-of-guarded, guarded-apart, mended-same, mended-there}
+use Rattle.frame.specs.Frame.{byteOf, shiftOf, placeAt, bitAt, packed, share, indexIn, recordOf, sent, withParity}
+use Rattle.frame.specs.Frame.{parityOf}
+use Rattle.frame.proofs.Order.{byte-small, shift-small, place-back, there-first, there-last, byte-there}
+use Rattle.frame.proofs.Order.{shift-there}
+use Rattle.frame.proofs.Fields.{index-collected, index-bit, field-small, bit-small, place-of-here}
+use Rattle.frame.proofs.Fields.{field-of-place, bit-of-place}
+use Rattle.frame.proofs.Mended.{guardedField, guardedBit, guarded-first, guarded-last, field-of-guarded}
+use Rattle.frame.proofs.Mended.{bit-of-guarded, guarded-apart, mended-same, mended-there}
 
 -- byte k of the bytes packed from the bits b
 abbrev pub packedByte : (ℕ → ℕ) → ℕ → ℕ
@@ -32,11 +36,13 @@ packedByte b k = fromBits (λ i. b (placeAt k i)) 8
 
 -- the bits of packed bytes are those that were packed
 module _ (b : ℕ → ℕ) (bits : (p : ℕ) → b p < 2) where
+  -- at each place
   pub bit-packed : (p : ℕ) → 1 ≤ p → p ≤ 144 → bitAt (packed b) p ≡ b p
   unfolding bitAt packed
   bit-packed p a h =
       ap (λ (x : ℕ). bit x (shiftOf p)) (getD-tabulate (packedByte b) 0 18 (byteOf p) (byte-small p a h))
-      ∙ bit-fromBits (λ i. b (placeAt (byteOf p) i)) 8 (shiftOf p) (λ k l. bits (placeAt (byteOf p) k)) (shift-small p a h)
+      ∙ bit-fromBits (λ i. b (placeAt (byteOf p) i)) 8 (shiftOf p) (λ k l. bits (placeAt (byteOf p) k))
+      (shift-small p a h)
       ∙ ap b (place-back p a h)
 
   -- and they are bytes
@@ -75,6 +81,7 @@ packed-cong-bits b c same =
 
 -- reading looks at the places 1 to 144 alone
 module _ (b c : ℕ → ℕ) (same : (p : ℕ) → 1 ≤ p → p ≤ 144 → b p ≡ c p) where
+  -- the correction number does
   pub number-cong : number b ≡ number c
   unfolding number
   number-cong =
@@ -83,20 +90,24 @@ module _ (b c : ℕ → ℕ) (same : (p : ℕ) → 1 ≤ p → p ≤ 144 → b p
       (total-cong (λ n. bit n i * b (guardedPlace n)) (λ n. bit n i * c (guardedPlace n)) 15
       (λ n a h. ap (λ (x : ℕ). bit n i * x) (same (guardedPlace n) (guarded-first n a h) (guarded-last n a h)))))
 
-  pub value-cong : (f : ℕ) → indexIn b f ≡ indexIn c f
+  -- so does each index
+  pub index-cong : (f : ℕ) → indexIn b f ≡ indexIn c f
   unfolding indexIn
-  value-cong f =
-      total-cong (share b f) (share c f) 144 (λ p a h. ap (λ (x : ℕ). cond (eqb (fieldAt p) f) (x * 2 ^ bitIn p) 0) (same p a h))
+  index-cong f =
+      total-cong (share b f) (share c f) 144
+      (λ p a h. ap (λ (x : ℕ). cond (eqb (fieldAt p) f) (x * 2 ^ bitIn p) 0) (same p a h))
 
+  -- and the record
   pub record-cong : recordOf b ≡ recordOf c
-  record-cong = λ i. record { lsp = parameters i; subframes = indices i; sp = value-cong 27 i; sy = value-cong 28 i }
+  record-cong = λ i. record { lsp = parameters i; subframes = indices i; sp = index-cong 27 i; sy = index-cong 28 i }
     where
       parameters : tabulate (λ k. indexIn b (k + 1)) 10 ≡ tabulate (λ k. indexIn c (k + 1)) 10
-      parameters = tabulate-cong (λ k. indexIn b (k + 1)) (λ k. indexIn c (k + 1)) 10 (λ k h. value-cong (k + 1))
+      parameters = tabulate-cong (λ k. indexIn b (k + 1)) (λ k. indexIn c (k + 1)) 10 (λ k h. index-cong (k + 1))
 
       indices : tabulate (λ k. indexIn b (k + 11)) 16 ≡ tabulate (λ k. indexIn c (k + 11)) 16
-      indices = tabulate-cong (λ k. indexIn b (k + 11)) (λ k. indexIn c (k + 11)) 16 (λ k h. value-cong (k + 11))
+      indices = tabulate-cong (λ k. indexIn b (k + 11)) (λ k. indexIn c (k + 11)) 16 (λ k h. index-cong (k + 11))
 
+  -- and what correction makes of each bit
   pub mended-cong : (p : ℕ) → 1 ≤ p → p ≤ 144 → mended b p ≡ mended c p
   unfolding mended
   mended-cong p a h =
@@ -104,11 +115,12 @@ module _ (b c : ℕ → ℕ) (same : (p : ℕ) → 1 ≤ p → p ≤ 144 → b p
       ∙ ap (λ (n : ℕ). cond (eqb p (guardedPlace n)) (inverted (c p)) (c p)) number-cong
 
 -- an index that fits its field is read as it was sent
-pub value-sent : (v : ℕ → ℕ) (f : ℕ) → f < 29 → v f < 2 ^ bitsIn f → indexIn (sent v) f ≡ v f
+pub index-sent : (v : ℕ → ℕ) (f : ℕ) → f < 29 → v f < 2 ^ bitsIn f → indexIn (sent v) f ≡ v f
 unfolding sent
-value-sent v f h fits =
-    value-collected (sent v) f h
-    ∙ fromBits-cong (λ i. sent v (placeOf f i)) (bit (v f)) (bitsIn f) (λ i l. rw (field-of-place f i h l, bit-of-place f i h l))
+index-sent v f h fits =
+    index-collected (sent v) f h
+    ∙ fromBits-cong (λ i. sent v (placeOf f i)) (bit (v f)) (bitsIn f)
+    (λ i l. rw (field-of-place f i h l, bit-of-place f i h l))
     ∙ fromBits-bit (bitsIn f) (v f) fits
 
 -- no place has number 0
@@ -133,6 +145,7 @@ pub bit-number : (b : ℕ → ℕ) (i : ℕ) → i < 4 → bit (number b) i ≡ 
 unfolding number
 bit-number b i h = bit-fromBits (check (guardedOf b)) 4 i (λ k l. omega arith) h
 
+-- it is below 16
 pub number-below : (b : ℕ → ℕ) → number b < 16
 unfolding number
 number-below b = fromBits-lt (check (guardedOf b)) 4 (λ i l. omega arith)
@@ -142,19 +155,23 @@ pub number-is : (b : ℕ → ℕ) (n : ℕ) → n < 16 → ((i : ℕ) → i < 4 
 unfolding number
 number-is b n h e = fromBits-cong (check (guardedOf b)) (bit n) 4 e ∙ fromBits-bit 4 n h
 
+-- number 0: every check is 0
 pub clean-check : (b : ℕ → ℕ) → number b ≡ 0 → (i : ℕ) → i < 4 → check (guardedOf b) i ≡ 0
 clean-check b e i h = sym (bit-number b i h) ∙ ap (λ (n : ℕ). bit n i) e ∙ bit-zero i
 
 -- two sets of bits laid over each other: 1 where exactly one has 1
 module _ (b c d : ℕ → ℕ) (over : (p : ℕ) → 1 ≤ p → p ≤ 144 → d p ≡ (b p + c p) % 2) where
+  -- a bit of the sum, taken once or not at all, has the parity of the two summands taken so
   one-parity : (x y z w : ℕ) → w < 2 → z ≡ (x + y) % 2 → (w * z) % 2 ≡ (w * x + w * y) % 2
   one-parity x y z zero h e = omega arith
   one-parity x y z (suc zero) h e = omega (arith, e)
   one-parity x y z (suc (suc w)) h e = absurd (omega arith)
 
+  -- the check of the two together is the sum of their checks
   pub check-over : (i : ℕ) → check (guardedOf d) i ≡ (check (guardedOf b) i + check (guardedOf c) i) % 2
   check-over i =
-      let e = total-parity (λ n. bit n i * b (guardedPlace n)) (λ n. bit n i * c (guardedPlace n)) (λ n. bit n i * d (guardedPlace n)) 15
+      let e = total-parity (λ n. bit n i * b (guardedPlace n)) (λ n. bit n i * c (guardedPlace n))
+      (λ n. bit n i * d (guardedPlace n)) 15
       (λ n a h. one-parity (b (guardedPlace n)) (c (guardedPlace n)) (d (guardedPlace n)) (bit n i) (omega arith)
       (over (guardedPlace n) (guarded-first n a h) (guarded-last n a h))) in
       omega (arith, e)
@@ -196,6 +213,7 @@ module _ (r : Record) (h : ℕ) where
   abbrev parity-alone : ℕ → ℕ
   parity-alone p = cond (eqb (fieldAt p) 0) (bit h (bitIn p)) 0
 
+  -- what is sent is the record without parity, and the parity bits laid over it
   laid-over : (p : ℕ) → 1 ≤ p → p ≤ 144 → sent (withParity r h) p ≡ (unmarked p + parity-alone p) % 2
   unfolding sent
   laid-over p a l = go (ℕ-discrete (fieldAt p) 0)
@@ -205,10 +223,13 @@ module _ (r : Record) (h : ℕ) where
       go (no e) = rw (ne-eqb (fieldAt p) 0 e) (omega arith)
 
   -- of the guarded bits, those of the parity
-  at-guarded : (n : ℕ) → 1 ≤ n → n ≤ 15 → parity-alone (guardedPlace n) ≡ cond (eqb (guardedField n) 0) (bit h (guardedBit n)) 0
+  at-guarded : (n : ℕ) → 1 ≤ n → n ≤ 15
+      → parity-alone (guardedPlace n) ≡ cond (eqb (guardedField n) 0) (bit h (guardedBit n)) 0
   at-guarded n a l = rw (field-of-guarded n a l, bit-of-guarded n a l)
 
-  four : (i : ℕ) → i < 4 → total (λ n. bit n i * cond (eqb (guardedField n) 0) (bit h (guardedBit n)) 0) 15 % 2 ≡ bit h i
+  -- each parity bit is in its own check and in no other
+  four : (i : ℕ) → i < 4
+      → total (λ n. bit n i * cond (eqb (guardedField n) 0) (bit h (guardedBit n)) 0) 15 % 2 ≡ bit h i
   unfolding total
   four zero l = omega arith
   four (suc zero) l = omega arith
@@ -216,10 +237,12 @@ module _ (r : Record) (h : ℕ) where
   four (suc (suc (suc zero))) l = omega arith
   four (suc (suc (suc (suc i)))) l = absurd (omega arith)
 
+  -- so the checks of the parity bits alone are the parity bits
   check-alone : (i : ℕ) → i < 4 → check (guardedOf parity-alone) i ≡ bit h i
   check-alone i l =
       ap (λ (k : ℕ). k % 2)
-      (total-cong (λ n. bit n i * parity-alone (guardedPlace n)) (λ n. bit n i * cond (eqb (guardedField n) 0) (bit h (guardedBit n)) 0) 15
+      (total-cong (λ n. bit n i * parity-alone (guardedPlace n))
+      (λ n. bit n i * cond (eqb (guardedField n) 0) (bit h (guardedBit n)) 0) 15
       (λ n a m. ap (λ (x : ℕ). bit n i * x) (at-guarded n a m)))
       ∙ four i l
 
@@ -232,6 +255,7 @@ module _ (r : Record) (h : ℕ) where
       let y = bit-number unmarked i l in
       omega (arith, o, x, y)
 
+-- the parity of a record is below 16
 pub parity-below : (r : Record) → parityOf r < 16
 unfolding parityOf
 parity-below r = number-below (sent (withParity r 0))
@@ -254,62 +278,75 @@ bits-width zero a = absurd (omega arith)
 bits-width (suc k) a = rw (sub-one (suc k))
 
 -- any bits are what is sent for the record in them and the parity in them
-pub as-sent : (b : ℕ → ℕ) → ((p : ℕ) → b p < 2) → (p : ℕ) → 1 ≤ p → p ≤ 144 → b p ≡ sent (withParity (recordOf b) (indexIn b 0)) p
+pub as-sent : (b : ℕ → ℕ) → ((p : ℕ) → b p < 2) → (p : ℕ) → 1 ≤ p → p ≤ 144
+    → b p ≡ sent (withParity (recordOf b) (indexIn b 0)) p
 unfolding sent
 as-sent b bits p a l =
     sym (ap (λ (x : ℕ). bit x (bitIn p)) (index (ℕ-discrete (fieldAt p) 0))
-    ∙ value-bit b (fieldAt p) (field-small p a l) bits (bitIn p) (bit-small p a l)
+    ∙ index-bit b (fieldAt p) (field-small p a l) bits (bitIn p) (bit-small p a l)
     ∙ ap b (place-of-here p a l))
   where
     index : Dec (fieldAt p ≡ 0) → withParity (recordOf b) (indexIn b 0) (fieldAt p) ≡ indexIn b (fieldAt p)
     index (yes e) = rw (eq-eqb (fieldAt p) 0 e) (ap (indexIn b) (sym e))
     index (no e) =
-        rw (ne-eqb (fieldAt p) 0 e) (index-of-record b (fieldAt p) (omega (arith, e)) (let h = field-small p a l in omega (arith, h)))
+        rw (ne-eqb (fieldAt p) 0 e)
+        (index-of-record b (fieldAt p) (omega (arith, e)) (let h = field-small p a l in omega (arith, h)))
 
 -- the parity in the bits, from the record in them and the number
 pub parity-told : (b : ℕ → ℕ) → ((p : ℕ) → b p < 2) → (i : ℕ) → i < 4
     → check (guardedOf b) i ≡ (bit (parityOf (recordOf b)) i + bit (indexIn b 0) i) % 2
 parity-told b bits i l =
     ap (λ (k : ℕ). k % 2)
-    (total-cong (λ n. bit n i * b (guardedPlace n)) (λ n. bit n i * sent (withParity (recordOf b) (indexIn b 0)) (guardedPlace n)) 15
+    (total-cong (λ n. bit n i * b (guardedPlace n))
+    (λ n. bit n i * sent (withParity (recordOf b) (indexIn b 0)) (guardedPlace n)) 15
     (λ n a m. ap (λ (x : ℕ). bit n i * x) (as-sent b bits (guardedPlace n) (guarded-first n a m) (guarded-last n a m))))
     ∙ check-sent (recordOf b) (indexIn b 0) i l
 
 -- flips in the guarded places: none but one
 module _ (e : ℕ → ℕ) (bits : (p : ℕ) → e p < 2) (m : ℕ) (a : 1 ≤ m) (l : m ≤ 15)
     (rest : (n : ℕ) → 1 ≤ n → n ≤ 15 → (n ≡ m → ⊥) → e (guardedPlace n) ≡ 0) where
+  -- each check is the bit of its number, where it is flipped
   check-one : (i : ℕ) → i < 4 → check (guardedOf e) i ≡ bit m i * e (guardedPlace m) % 2
   check-one i h =
       ap (λ (k : ℕ). k % 2)
       (total-one (λ n. bit n i * e (guardedPlace n)) m 15 a l (λ n p q w. let z = rest n p q w in rw z (omega arith)))
 
+  -- flipped: the number is its own
   pub number-one : e (guardedPlace m) ≡ 1 → number e ≡ m
   number-one w = number-is e m (omega arith) (λ i h. let c = check-one i h in c ∙ rw w (omega arith))
 
+  -- not flipped: the number is 0
   pub number-none : e (guardedPlace m) ≡ 0 → number e ≡ 0
-  number-none w = number-is e 0 (omega arith) (λ i h. let c = check-one i h in let z = bit-zero i in c ∙ rw (w, z) (omega arith))
+  number-none w =
+      number-is e 0 (omega arith) (λ i h. let c = check-one i h in let z = bit-zero i in c ∙ rw (w, z) (omega arith))
 
   -- correction takes it away
   pub mended-one : (n : ℕ) → 1 ≤ n → n ≤ 15 → mended e (guardedPlace n) ≡ 0
   mended-one n p q = go (ℕ-discrete n m) (e (guardedPlace m)) refl (bits (guardedPlace m))
     where
       go : Dec (n ≡ m) → (x : ℕ) → e (guardedPlace m) ≡ x → x < 2 → mended e (guardedPlace n) ≡ 0
-      go (yes v) zero w u = clean-same e (number-none w) (guardedPlace n) (guarded-first n p q) ∙ ap (λ (k : ℕ). e (guardedPlace k)) v ∙ w
+      go (yes v) zero w u =
+          clean-same e (number-none w) (guardedPlace n) (guarded-first n p q) ∙ ap (λ (k : ℕ). e (guardedPlace k)) v
+          ∙ w
       go (yes v) (suc zero) w u =
           mended-there e (guardedPlace n) (ap guardedPlace (v ∙ sym (number-one w)))
           ∙ ap inverted (ap (λ (k : ℕ). e (guardedPlace k)) v ∙ w)
       go (no v) zero w u = clean-same e (number-none w) (guardedPlace n) (guarded-first n p q) ∙ rest n p q v
-      go (no v) (suc zero) w u = mended-same e (guardedPlace n) (λ s. v (guarded-apart n m p q a l (s ∙ ap guardedPlace (number-one w)))) ∙ rest n p q v
+      go (no v) (suc zero) w u =
+          mended-same e (guardedPlace n) (λ s. v (guarded-apart n m p q a l (s ∙ ap guardedPlace (number-one w))))
+          ∙ rest n p q v
       go d (suc (suc x)) w u = absurd (omega arith)
 
 -- and none but two
 module _ (e : ℕ → ℕ) (m n : ℕ) (a : 1 ≤ m) (l : m ≤ 15) (b : 1 ≤ n) (k : n ≤ 15) (apart : m ≡ n → ⊥)
     (here : e (guardedPlace m) ≡ 1) (there : e (guardedPlace n) ≡ 1)
     (rest : (q : ℕ) → 1 ≤ q → q ≤ 15 → (q ≡ m → ⊥) → (q ≡ n → ⊥) → e (guardedPlace q) ≡ 0) where
+  -- each check is the sum of the bits of the two numbers
   check-two : (i : ℕ) → check (guardedOf e) i ≡ (bit m i + bit n i) % 2
   check-two i =
       ap (λ (x : ℕ). x % 2)
-      (total-two (λ q. bit q i * e (guardedPlace q)) m n 15 a l b k apart (λ q r s t w. let z = rest q r s t w in rw z (omega arith)))
+      (total-two (λ q. bit q i * e (guardedPlace q)) m n 15 a l b k apart
+      (λ q r s t w. let z = rest q r s t w in rw z (omega arith)))
       ∙ rw (here, there) (omega arith)
 
   -- two are always reported
@@ -322,7 +359,8 @@ module _ (e : ℕ → ℕ) (m n : ℕ) (a : 1 ≤ m) (l : m ≤ 15) (b : 1 ≤ n
       omega (arith, c, w)))
 
   -- by the number of a third place: were it one of the two, the other would be 0
-  not-either : (x y : ℕ) → 1 ≤ y → y ≤ 15 → ((i : ℕ) → (bit x i + bit y i) % 2 ≡ (bit m i + bit n i) % 2) → number e ≡ x → ⊥
+  not-either : (x y : ℕ) → 1 ≤ y → y ≤ 15 → ((i : ℕ) → (bit x i + bit y i) % 2 ≡ (bit m i + bit n i) % 2)
+      → number e ≡ x → ⊥
   not-either x y f t both z = omega (arith, none, f)
     where
       none : y ≡ 0
@@ -335,5 +373,6 @@ module _ (e : ℕ → ℕ) (m n : ℕ) (a : 1 ≤ m) (l : m ≤ 15) (b : 1 ≤ n
           let p = both i in
           omega (arith, c, w, v, o, p))
 
+  -- so the number is neither of the two
   pub number-third : (number e ≡ m → ⊥) × (number e ≡ n → ⊥)
   number-third = (not-either m n b k (λ i. refl), not-either n m a l (λ i. omega arith))

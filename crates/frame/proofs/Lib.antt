@@ -1,6 +1,7 @@
 pub mod Order
 pub mod Places
 pub mod Gathered
+pub mod Listed
 pub mod Number
 pub mod Packed
 pub mod Fields

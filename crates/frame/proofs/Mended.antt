@@ -24,7 +24,7 @@ use Rattle.frame.specs.Places.Name.{HP}
 use Rattle.frame.specs.Parity.{guarded, guardedName, guardedPlace, check, numberOf, number, inverted, mended}
 use Rattle.frame.specs.Frame.{share, indexIn, recordOf}
 use Rattle.frame.specs.Steps.{guardedEntries, inverting, mendedFields, recordBy}
-use Rattle.frame.proofs.Fields.{value-small, value-bit, place-first, place-last, field-of-place, bit-of-place}
+use Rattle.frame.proofs.Fields.{index-small, index-bit, place-first, place-last, field-of-place, bit-of-place}
 use Rattle.frame.proofs.Number.{guardedBits}
 
 -- the field and the bit of correction number n
@@ -41,16 +41,19 @@ sound k x =
     (both (ltb (bitOf x) (bitsIn (fieldOf x)))
     (both (eqb (getD guardedEntries k 0 / 16) (fieldOf x)) (eqb (getD guardedEntries k 0 % 16) (bitOf x))))
 
+-- it passes at all fifteen
 all-sound : T (every sound 0 guarded)
 unfolding sound guardedEntries
 all-sound = tt
 
+-- the place of a guarded bit is that of its field and bit
 place-is : (n : ℕ) → 1 ≤ n → guardedPlace n ≡ placeOf (guardedField n) (guardedBit n)
 unfolding guardedPlace
 place-is zero a = absurd (omega arith)
 place-is (suc n) a = refl
 
 module _ (n : ℕ) (a : 1 ≤ n) (h : n ≤ 15) where
+  -- for the number n
   sound-here : (guardedField n < 29) × (guardedBit n < bitsIn (guardedField n))
       × (getD guardedEntries (n - 1) 0 / 16 ≡ guardedField n) × (getD guardedEntries (n - 1) 0 % 16 ≡ guardedBit n)
   unfolding sound
@@ -58,7 +61,8 @@ module _ (n : ℕ) (a : 1 ≤ n) (h : n ≤ 15) where
       let f = guardedField n in
       let i = guardedBit n in
       let e = getD guardedEntries (n - 1) 0 in
-      let t = each-of-four (ltb f 29) (ltb i (bitsIn f)) (eqb (e / 16) f) (eqb (e % 16) i) (at (HP 0) sound guarded all-sound (n - 1) (omega arith)) in
+      let t = each-of-four (ltb f 29) (ltb i (bitsIn f)) (eqb (e / 16) f) (eqb (e % 16) i)
+      (at (HP 0) sound guarded all-sound (n - 1) (omega arith)) in
       (ltb→lt f 29 (t .0), ltb→lt i (bitsIn f) (t .1), eqb→eq (e / 16) f (t .2), eqb→eq (e % 16) i (t .3))
 
   pub guarded-field-small : guardedField n < 29
@@ -88,7 +92,8 @@ module _ (n : ℕ) (a : 1 ≤ n) (h : n ≤ 15) where
   guarded-last = rw guarded-place (place-last (guardedField n) (guardedBit n) guarded-field-small guarded-bit-small)
 
   pub field-of-guarded : fieldAt (guardedPlace n) ≡ guardedField n
-  field-of-guarded = rw guarded-place (field-of-place (guardedField n) (guardedBit n) guarded-field-small guarded-bit-small)
+  field-of-guarded =
+      rw guarded-place (field-of-place (guardedField n) (guardedBit n) guarded-field-small guarded-bit-small)
 
   pub bit-of-guarded : bitIn (guardedPlace n) ≡ guardedBit n
   bit-of-guarded = rw guarded-place (bit-of-place (guardedField n) (guardedBit n) guarded-field-small guarded-bit-small)
@@ -97,13 +102,16 @@ module _ (n : ℕ) (a : 1 ≤ n) (h : n ≤ 15) where
 differ : ℕ → ℕ → Bool
 differ i j = cond (eqb (getD guardedEntries i 0) (getD guardedEntries j 0)) (eqb i j) true
 
+-- it passes at all pairs
 all-differ : T (allBelow 15 (λ i. allBelow 15 (differ i)))
 unfolding differ guardedEntries
 all-differ = tt
 
+-- where the entries are the same the numbers are
 told : (i j : ℕ) → getD guardedEntries i 0 ≡ getD guardedEntries j 0 → T (differ i j) → T (eqb i j)
 unfolding differ
-told i j e t = subst (λ (b : Bool). T (cond b (eqb i j) true)) (eq-eqb (getD guardedEntries i 0) (getD guardedEntries j 0) e) t
+told i j e t =
+    subst (λ (b : Bool). T (cond b (eqb i j) true)) (eq-eqb (getD guardedEntries i 0) (getD guardedEntries j 0) e) t
 
 -- so different numbers have different places
 pub guarded-apart : (n m : ℕ) → 1 ≤ n → n ≤ 15 → 1 ≤ m → m ≤ 15 → guardedPlace n ≡ guardedPlace m → n ≡ m
@@ -112,13 +120,16 @@ guarded-apart n m a b c d e = let z = eqb→eq (n - 1) (m - 1) apart in omega (a
     entries-same : getD guardedEntries (n - 1) 0 ≡ getD guardedEntries (m - 1) 0
     entries-same =
         let f : getD guardedEntries (n - 1) 0 / 16 ≡ getD guardedEntries (m - 1) 0 / 16
-        = entry-field n a b ∙ sym (field-of-guarded n a b) ∙ ap fieldAt e ∙ field-of-guarded m c d ∙ sym (entry-field m c d) in
+        = entry-field n a b ∙ sym (field-of-guarded n a b) ∙ ap fieldAt e ∙ field-of-guarded m c d
+        ∙ sym (entry-field m c d) in
         let g : getD guardedEntries (n - 1) 0 % 16 ≡ getD guardedEntries (m - 1) 0 % 16
         = entry-bit n a b ∙ sym (bit-of-guarded n a b) ∙ ap bitIn e ∙ bit-of-guarded m c d ∙ sym (entry-bit m c d) in
         omega (arith, f, g)
 
     tested : T (differ (n - 1) (m - 1))
-    tested = below (differ (n - 1)) 15 (below (λ i. allBelow 15 (differ i)) 15 all-differ (n - 1) (omega arith)) (m - 1) (omega arith)
+    tested =
+        below (differ (n - 1)) 15 (below (λ i. allBelow 15 (differ i)) 15 all-differ (n - 1) (omega arith)) (m - 1)
+        (omega arith)
 
     apart : T (eqb (n - 1) (m - 1))
     apart = told (n - 1) (m - 1) entries-same tested
@@ -128,6 +139,7 @@ pub mended-same : (b : ℕ → ℕ) (p : ℕ) → (p ≡ guardedPlace (number b)
 unfolding mended
 mended-same b p e = rw (ne-eqb p (guardedPlace (number b)) e)
 
+-- the bit of the number is inverted
 pub mended-there : (b : ℕ → ℕ) (p : ℕ) → p ≡ guardedPlace (number b) → mended b p ≡ inverted (b p)
 unfolding mended
 mended-there b p e = rw (eq-eqb p (guardedPlace (number b)) e)
@@ -151,6 +163,7 @@ module _ (b : ℕ → ℕ) (bits : (p : ℕ) → b p < 2) where
   abbrev v : List ℕ
   v = tabulate (indexIn b) 29
 
+  -- each stands at its field
   at-field : (f : ℕ) → f < 29 → getD v f 0 ≡ indexIn b f
   at-field f h = getD-tabulate (indexIn b) 0 29 f h
 
@@ -159,25 +172,30 @@ module _ (b : ℕ → ℕ) (bits : (p : ℕ) → b p < 2) where
   guarded-bits n a h =
       guarded-entry n a h v
       ∙ ap (λ (x : ℕ). bit x (guardedBit n)) (at-field (guardedField n) (guarded-field-small n a h))
-      ∙ value-bit b (guardedField n) (guarded-field-small n a h) bits (guardedBit n) (guarded-bit-small n a h)
+      ∙ index-bit b (guardedField n) (guarded-field-small n a h) bits (guardedBit n) (guarded-bit-small n a h)
       ∙ ap b (sym (guarded-place n a h))
 
+  -- so the number found in the list is that of the frame
   pub number-of-fields : numberOf (guardedBits v) ≡ number b
   unfolding number
   number-of-fields =
       fromBits-cong (check (guardedBits v)) (check (λ n. b (guardedPlace n))) 4
       (λ i h. ap (λ (k : ℕ). k % 2)
-      (total-cong (λ n. bit n i * guardedBits v n) (λ n. bit n i * b (guardedPlace n)) 15 (λ n a l. ap (λ (x : ℕ). bit n i * x) (guarded-bits n a l))))
+      (total-cong (λ n. bit n i * guardedBits v n) (λ n. bit n i * b (guardedPlace n)) 15
+      (λ n a l. ap (λ (x : ℕ). bit n i * x) (guarded-bits n a l))))
 
   -- a field away from the mended place keeps its index
-  away : (f : ℕ) → ((q : ℕ) → 1 ≤ q → q ≤ 144 → fieldAt q ≡ f → q ≡ guardedPlace (number b) → ⊥) → indexIn b f ≡ indexIn (mended b) f
+  away : (f : ℕ) → ((q : ℕ) → 1 ≤ q → q ≤ 144 → fieldAt q ≡ f → q ≡ guardedPlace (number b) → ⊥)
+      → indexIn b f ≡ indexIn (mended b) f
   unfolding indexIn
   away f e = total-cong (share b f) (share (mended b) f) 144 (λ q a l. go q a l (ℕ-discrete (fieldAt q) f))
     where
       go : (q : ℕ) → 1 ≤ q → q ≤ 144 → Dec (fieldAt q ≡ f) → share b f q ≡ share (mended b) f q
-      go q a l (yes o) = ap (λ (x : ℕ). cond (eqb (fieldAt q) f) (x * 2 ^ bitIn q) 0) (sym (mended-same b q (e q a l o)))
+      go q a l (yes o) =
+          ap (λ (x : ℕ). cond (eqb (fieldAt q) f) (x * 2 ^ bitIn q) 0) (sym (mended-same b q (e q a l o)))
       go q a l (no o) = rw (ne-eqb (fieldAt q) f o)
 
+  -- with number 0 no place is mended
   none-at-zero : number b ≡ 0 → (q : ℕ) → 1 ≤ q → q ≡ guardedPlace (number b) → ⊥
   unfolding guardedPlace
   none-at-zero e q a w = let z : guardedPlace (number b) ≡ 0 = ap guardedPlace e in omega (arith, z)
@@ -196,9 +214,9 @@ module _ (b : ℕ → ℕ) (bits : (p : ℕ) → b p < 2) where
     mended-bit : (i : ℕ) → i < bitsIn F → bit (bitXor (indexIn b F) (2 ^ K)) i ≡ bit (indexIn (mended b) F) i
     mended-bit i l =
         bit-xor (indexIn b F) (2 ^ K) i
-        ∙ ap (λ (x : ℕ). (x + bit (2 ^ K) i) % 2) (value-bit b F (guarded-field-small (number b) a h) bits i l)
+        ∙ ap (λ (x : ℕ). (x + bit (2 ^ K) i) % 2) (index-bit b F (guarded-field-small (number b) a h) bits i l)
         ∙ go (ℕ-discrete i K)
-        ∙ sym (value-bit (mended b) F (guarded-field-small (number b) a h) mended-bits i l)
+        ∙ sym (index-bit (mended b) F (guarded-field-small (number b) a h) mended-bits i l)
       where
         go : Dec (i ≡ K) → (b (placeOf F i) + bit (2 ^ K) i) % 2 ≡ mended b (placeOf F i)
         go (yes e) =
@@ -215,17 +233,21 @@ module _ (b : ℕ → ℕ) (bits : (p : ℕ) → b p < 2) where
                 ∙ ap bitIn (w ∙ guarded-place (number b) a h)
                 ∙ bit-of-place F K (guarded-field-small (number b) a h) (guarded-bit-small (number b) a h))
 
+    -- so the index there with that bit inverted is the index of the mended bits
     mended-value : bitXor (indexIn b F) (2 ^ K) ≡ indexIn (mended b) F
     mended-value =
         same-bits (bitsIn F) (bitXor (indexIn b F) (2 ^ K)) (indexIn (mended b) F)
-        (xor-lt (bitsIn F) (indexIn b F) (2 ^ K) (value-small b F (guarded-field-small (number b) a h) bits) (pow-lt (guarded-bit-small (number b) a h)))
-        (value-small (mended b) F (guarded-field-small (number b) a h) mended-bits)
+        (xor-lt (bitsIn F) (indexIn b F) (2 ^ K) (index-small b F (guarded-field-small (number b) a h) bits)
+        (pow-lt (guarded-bit-small (number b) a h)))
+        (index-small (mended b) F (guarded-field-small (number b) a h) mended-bits)
         mended-bit
 
+    -- in the list with that index put in, every field holds the index of the mended bits
     at-mended : (f : ℕ) → f < 29 → Dec (f ≡ F) → getD (set v F (bitXor (getD v F 0) (2 ^ K))) f 0 ≡ indexIn (mended b) f
     at-mended f l (yes e) =
         rw e
-        (getD-set-same v F (bitXor (getD v F 0) (2 ^ K)) 0 (rw (length-tabulate (indexIn b) 29) (guarded-field-small (number b) a h))
+        (getD-set-same v F (bitXor (getD v F 0) (2 ^ K)) 0
+        (rw (length-tabulate (indexIn b) 29) (guarded-field-small (number b) a h))
         ∙ ap (λ (x : ℕ). bitXor x (2 ^ K)) (at-field F (guarded-field-small (number b) a h))
         ∙ mended-value)
     at-mended f l (no e) =
@@ -237,21 +259,36 @@ module _ (b : ℕ → ℕ) (bits : (p : ℕ) → b p < 2) where
   unfolding mendedFields
   mended-fields f l = go (ℕ-discrete (number b) 0)
     where
-      go : Dec (number b ≡ 0) → getD (cond (eqb (number b) 0) v (inverting v (getD guardedEntries (number b - 1) 0))) f 0 ≡ indexIn (mended b) f
+      go : Dec (number b ≡ 0)
+          → getD (cond (eqb (number b) 0) v (inverting v (getD guardedEntries (number b - 1) 0))) f 0
+          ≡ indexIn (mended b) f
       go (yes e) = rw (eq-eqb (number b) 0 e) (at-field f l ∙ away f (λ q p r o w. none-at-zero e q p w))
       go (no e) =
           rw (ne-eqb (number b) 0 e)
-          (rw (entry-field (number b) one (h one), entry-bit (number b) one (h one)) (at-mended one f l (ℕ-discrete f (F one))))
+          (rw (entry-field (number b) one (h one), entry-bit (number b) one (h one))
+          (at-mended one f l (ℕ-discrete f (F one))))
         where
           one : 1 ≤ number b
           one = omega (arith, e)
 
   -- so the record read is that of the mended bits
   pub record-read : recordBy (mendedFields v (number b)) ≡ recordOf (mended b)
-  record-read = λ i. record { lsp = parameters i; subframes = indices i; sp = mended-fields 27 (omega arith) i; sy = mended-fields 28 (omega arith) i }
+  record-read =
+      λ i. record {
+        lsp = parameters i;
+        subframes = indices i;
+        sp = mended-fields 27 (omega arith) i;
+        sy = mended-fields 28 (omega arith) i;
+      }
     where
-      parameters : tabulate (λ k. getD (mendedFields v (number b)) (k + 1) 0) 10 ≡ tabulate (λ k. indexIn (mended b) (k + 1)) 10
-      parameters = tabulate-cong (λ k. getD (mendedFields v (number b)) (k + 1) 0) (λ k. indexIn (mended b) (k + 1)) 10 (λ k l. mended-fields (k + 1) (omega arith))
+      parameters : tabulate (λ k. getD (mendedFields v (number b)) (k + 1) 0) 10
+          ≡ tabulate (λ k. indexIn (mended b) (k + 1)) 10
+      parameters =
+          tabulate-cong (λ k. getD (mendedFields v (number b)) (k + 1) 0) (λ k. indexIn (mended b) (k + 1)) 10
+          (λ k l. mended-fields (k + 1) (omega arith))
 
-      indices : tabulate (λ k. getD (mendedFields v (number b)) (k + 11) 0) 16 ≡ tabulate (λ k. indexIn (mended b) (k + 11)) 16
-      indices = tabulate-cong (λ k. getD (mendedFields v (number b)) (k + 11) 0) (λ k. indexIn (mended b) (k + 11)) 16 (λ k l. mended-fields (k + 11) (omega arith))
+      indices : tabulate (λ k. getD (mendedFields v (number b)) (k + 11) 0) 16
+          ≡ tabulate (λ k. indexIn (mended b) (k + 11)) 16
+      indices =
+          tabulate-cong (λ k. getD (mendedFields v (number b)) (k + 11) 0) (λ k. indexIn (mended b) (k + 11)) 16
+          (λ k l. mended-fields (k + 11) (omega arith))

@@ -1,4 +1,5 @@
--- The loop of `number_of`: the exclusive or of the numbers of the guarded bits passed that are 1. And the entries of the guarded bits.
+-- The loop of `number_of`: the exclusive or of the numbers of the guarded bits passed that are 1. And the entries of
+-- the guarded bits.
 -- Assumes nothing.
 use mathlib.Core.Path.{_≡_, _∙_, sym, refl, ap, subst}
 use mathlib.Core.List.{List}
@@ -49,16 +50,19 @@ module _ (v : List ℕ) where
     pub upto : n ≤ 15
     pub here : number ≡ fromBits (parity n) 4
 
+  -- none passed: 0
   pub summed-none : Summed 0 0
   unfolding total fromBits
   summed-none = record { upto = omega arith; here = refl }
 
   module _ {n number : ℕ} (s : Summed n number) where
+    -- it is below 16
     pub summed-small : number < 16
     summed-small = rw (s .here) (fromBits-lt (parity n) 4 (λ i h. omega arith))
 
     -- one guarded bit more
-    pub summed-more : n < 15 → (x : ℕ) → x < 2 → x ≡ guardedBits v (n + 1) → Summed (n + 1) (bitXor number ((n + 1) * x))
+    pub summed-more : n < 15 → (x : ℕ) → x < 2 → x ≡ guardedBits v (n + 1)
+        → Summed (n + 1) (bitXor number ((n + 1) * x))
     summed-more h x small e =
         record {
           upto = omega arith;
@@ -66,7 +70,8 @@ module _ (v : List ℕ) where
               same-bits 4 (bitXor number ((n + 1) * x)) (fromBits (parity (n + 1)) 4)
               (xor-lt 4 number ((n + 1) * x) summed-small (taken-small (n + 1) x (omega arith) small))
               (fromBits-lt (parity (n + 1)) 4 (λ i l. omega arith))
-              (λ i l. bit-xor number ((n + 1) * x) i ∙ grown i l ∙ sym (bit-fromBits (parity (n + 1)) 4 i (λ k m. omega arith) l));
+              (λ i l. bit-xor number ((n + 1) * x) i ∙ grown i l
+              ∙ sym (bit-fromBits (parity (n + 1)) 4 i (λ k m. omega arith) l));
         }
       where
         before : (i : ℕ) → i < 4 → bit number i ≡ parity n i
@@ -80,6 +85,7 @@ module _ (v : List ℕ) where
             let sum = total-more (λ m. bit m i * guardedBits v m) n in
             rw (old, one, sum) (omega arith)
 
+    -- all fifteen passed: it is the correction number
     pub summed-all : 15 ≤ n → number ≡ numberOf (guardedBits v)
     summed-all h =
         let e : n ≡ 15 = omega (arith, s .upto) in
@@ -90,7 +96,8 @@ module _ (t : List ℕ) (same : t ≡ guardedEntries) (n : ℕ) where
   -- the next one is bit n + 1
   pub next-guarded : (v : List ℕ) → bitOfEntry v (getD t n 0) ≡ guardedBits v (n + 1)
   next-guarded v =
-      ap (λ (l : List ℕ). bitOfEntry v (getD l n 0)) same ∙ ap (λ (k : ℕ). bitOfEntry v (getD guardedEntries k 0)) (sym (next n))
+      ap (λ (l : List ℕ). bitOfEntry v (getD l n 0)) same
+      ∙ ap (λ (k : ℕ). bitOfEntry v (getD guardedEntries k 0)) (sym (next n))
 
   -- and is in one of the 29
   pub next-field : n < 15 → getD t n 0 / 16 < 29
@@ -109,12 +116,15 @@ pub mended-none : (v : List ℕ) (n : ℕ) → n ≡ 0 → v ≡ mendedFields v 
 unfolding mendedFields
 mended-none v n e = rw (eq-eqb n 0 e)
 
--- a number below 16 as the code mends it, of its list t of entries
-module _ (v t : List ℕ) (same : t ≡ guardedEntries) (n : ℕ) where
-  pub mended-one : (n ≡ 0 → ⊥)
-      → set v (getD t (n - 1) 0 / 16) (bitXor (getD v (getD t (n - 1) 0 / 16) 0) (1 * 2 ^ (getD t (n - 1) 0 % 16) % 65536)) ≡ mendedFields v n
+-- a number below 16 as the code mends it, by its list t of entries
+module _ (t : List ℕ) (same : t ≡ guardedEntries) (n : ℕ) (e : n ≡ 0 → ⊥) where
+  -- the bit that the entry of n names is inverted
+  pub mended-one : (v : List ℕ)
+      → set v (getD t (n - 1) 0 / 16)
+      (bitXor (getD v (getD t (n - 1) 0 / 16) 0) (1 * 2 ^ (getD t (n - 1) 0 % 16) % 65536)) ≡ mendedFields v n
   unfolding mendedFields
-  mended-one e = rw (same, ne-eqb n 0 e, shifted-one (getD guardedEntries (n - 1) 0 % 16) (omega arith))
+  mended-one v = rw (same, ne-eqb n 0 e, shifted-one (getD guardedEntries (n - 1) 0 % 16) (omega arith))
 
-  pub mended-field : (n ≡ 0 → ⊥) → n < 16 → getD t (n - 1) 0 / 16 < 29
-  mended-field e h = rw same (guarded-field (n - 1) (omega arith))
+  -- and is in one of the 29
+  pub mended-field : n < 16 → getD t (n - 1) 0 / 16 < 29
+  mended-field h = rw same (guarded-field (n - 1) (omega arith))

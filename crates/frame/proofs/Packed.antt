@@ -20,17 +20,21 @@ module _ (b : ℕ → ℕ) (bits : (p : ℕ) → b p < 2) (from : ℕ) where
     pub upto : q ≤ 8
     pub here : x ≡ fromBits (λ i. b (from + q - i)) q
 
+  -- none shifted in: 0
   pub shifted-none : Shifted 0 0
   unfolding fromBits
   shifted-none = record { upto = omega arith; here = refl }
 
   module _ {q x : ℕ} (s : Shifted q x) where
+    -- q bits make a number below 2 ^ q
     pub shifted-small : x < 2 ^ q
     shifted-small = rw (s .here) (fromBits-lt (λ i. b (from + q - i)) q (λ i h. bits (from + q - i)))
 
+    -- at most eight bits make a byte
     pub shifted-byte : x < 256
     shifted-byte = let p : 2 ^ q ≤ 2 ^ 8 = pow-mono (s .upto) in let h = shifted-small in omega (arith, p, h)
 
+    -- and fewer leave room for one more
     pub shifted-room : q < 8 → x < 128
     shifted-room l =
         let l′ : q ≤ 7 = omega arith in
@@ -38,11 +42,14 @@ module _ (b : ℕ → ℕ) (bits : (p : ℕ) → b p < 2) (from : ℕ) where
         let h = shifted-small in
         omega (arith, p, h)
 
+    -- one bit more
     pub shifted-more : q < 8 → Shifted (q + 1) (x * 2 + b (from + q + 1))
     shifted-more l = record { upto = omega arith; here = sym grown }
       where
         rest : fromBits (λ i. b (from + (q + 1) - suc i)) q ≡ x
-        rest = fromBits-cong (λ i. b (from + (q + 1) - suc i)) (λ i. b (from + q - i)) q (λ i h. ap b (omega arith)) ∙ sym (s .here)
+        rest =
+            fromBits-cong (λ i. b (from + (q + 1) - suc i)) (λ i. b (from + q - i)) q (λ i h. ap b (omega arith))
+            ∙ sym (s .here)
 
         first : b (from + (q + 1) - 0) ≡ b (from + q + 1)
         first = ap b (omega arith)
@@ -52,13 +59,18 @@ module _ (b : ℕ → ℕ) (bits : (p : ℕ) → b p < 2) (from : ℕ) where
             ap (fromBits (λ i. b (from + (q + 1) - i))) (add-one q) ∙ fromBits-low (λ i. b (from + (q + 1) - i)) q
             ∙ omega (arith, rest, first)
 
+    -- eight bits
     pub shifted-all : 8 ≤ q → x ≡ fromBits (λ i. b (from + 8 - i)) 8
-    shifted-all h = let e : q ≡ 8 = omega (arith, s .upto) in subst (λ (n : ℕ). x ≡ fromBits (λ i. b (from + n - i)) n) e (s .here)
+    shifted-all h =
+        let e : q ≡ 8 = omega (arith, s .upto) in
+        subst (λ (n : ℕ). x ≡ fromBits (λ i. b (from + n - i)) n) e (s .here)
 
--- bit i of byte k stands at place 8 k + 8 - i: eight places a byte, the first of them at the top, as the code goes through them
+-- bit i of byte k stands at place 8 k + 8 - i: eight places a byte, the first of them at the top, as the code goes
+-- through them
 pub stands-at : (k i : ℕ) → k < 18 → i < 8 → placeAt k i ≡ 8 * k + 8 - i
 stands-at k i h l =
-    ap (λ (x : ℕ). placeAt x i) (sym byte) ∙ ap (placeAt (byteOf p)) (sym shift) ∙ place-back p (omega arith) (omega arith)
+    ap (λ (x : ℕ). placeAt x i) (sym byte) ∙ ap (placeAt (byteOf p)) (sym shift)
+    ∙ place-back p (omega arith) (omega arith)
   where
     p : ℕ
     p = 8 * k + 8 - i
@@ -78,13 +90,16 @@ module _ (b : ℕ → ℕ) (bits : (p : ℕ) → b p < 2) (k : ℕ) (h : k < 18)
 
 -- the next bit to send, as the code takes it, of its list t of entries
 module _ (v t : List ℕ) (same : t ≡ entries) (p : ℕ) (h : p < 144) where
+  -- it is the bit sent at that place
   pub sent-next : getD v (getD t p 0 / 16) 0 / 2 ^ (getD t p 0 % 16) % 2 ≡ sent (λ f. getD v f 0) (p + 1)
   unfolding sent
   sent-next = rw (same, entry-field p h, entry-bit p h)
 
+  -- and its field is one of the 29
   pub sent-field : getD t p 0 / 16 < 29
   sent-field = rw (same, entry-field p h) (rw (next p) (field-below p h))
 
+-- a bit that is sent is a bit
 pub sent-small : (v : ℕ → ℕ) (p : ℕ) → sent v p < 2
 unfolding sent
 sent-small v p = omega arith

@@ -44,19 +44,24 @@ next k = omega arith
 
 -- an entry of the code's table taken apart
 module _ (k : ℕ) (h : k < 144) where
+  -- it is the field above the bit
   entry : getD entries k 0 ≡ 16 * fieldAt (k + 1) + bitIn (k + 1)
   unfolding entries
   entry = List·getD-map entryOf places k (HP 0) ∙ ap (λ (n : ℕ). entryOf (getD places n (HP 0))) (sym (next k))
 
+  -- the bit is below nine
   bit-small : bitIn (k + 1) < 9
   bit-small = subst (λ (n : ℕ). bitOf (getD places n (HP 0)) < 9) (sym (next k)) (bit-below k h)
 
+  -- so its upper digits are the field
   pub entry-field : getD entries k 0 / 16 ≡ fieldAt (k + 1)
   entry-field = let e = entry in let b = bit-small in omega (arith, e, b)
 
+  -- and its last digit is the bit
   pub entry-bit : getD entries k 0 % 16 ≡ bitIn (k + 1)
   entry-bit = let e = entry in let b = bit-small in omega (arith, e, b)
 
+-- there are 144 entries
 pub length-entries : length entries ≡ 144
 unfolding entries places
 length-entries = refl

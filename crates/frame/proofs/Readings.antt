@@ -1,4 +1,5 @@
--- What is read in any bytes is in range: the indices fit their fields, the correction number is below 16, the order mark at most 9.
+-- What is read in any bytes is in range: the indices fit their fields, the correction number is below 16, the order
+-- mark at most 9.
 -- Assumes nothing.
 use mathlib.Core.Path.{_≡_, sym, refl, subst}
 use mathlib.Core.List.{List}
@@ -17,7 +18,7 @@ use Rattle.frame.specs.Frame.{bitAt, recordOf}
 use Rattle.frame.specs.Parity.{number, mended}
 use Rattle.frame.specs.Answers.{recordMark, noRecord, readingOf}
 use Rattle.frame.specs.declared.Reading.{Reading}
-use Rattle.frame.proofs.Fields.{value-small}
+use Rattle.frame.proofs.Fields.{index-small}
 use Rattle.frame.proofs.Gathered.{bitAt-small}
 use Rattle.frame.proofs.Mended.{mended-bits}
 use Rattle.frame.proofs.Answered.{read-eighteen, read-refused}
@@ -27,7 +28,7 @@ use Rattle.frame.proofs.Laws.{index-of-record, bits-width, number-below
 pub record-fits : (b : ℕ → ℕ) → ((p : ℕ) → b p < 2) → tooLarge (recordOf b) ≡ 0
 record-fits b bits =
     all-fit-none-too-large (recordOf b)
-    (λ f a l. rw (index-of-record b f a l, sym (bits-width f a)) (value-small b f (omega arith) bits))
+    (λ f a l. rw (index-of-record b f a l, sym (bits-width f a)) (index-small b f (omega arith) bits))
 
 -- what holds of a reading, whether the bytes were a frame or not
 pub record InRange (r : Reading) : Type 0 where
@@ -35,14 +36,17 @@ pub record InRange (r : Reading) : Type 0 where
   pub numbered : r .number < 16
   pub marked : r .mark ≤ 9
 
+-- an order mark is at most 9
 record-mark-most : (r : Record) → recordMark r ≤ 9
 unfolding recordMark
 record-mark-most r = mark-most (hertzOf (r .lsp) .hz)
 
+-- so does a record of nothing but 0
 no-record-fits : tooLarge noRecord ≡ 0
 unfolding tooLarge lowestFrom tabulateFrom
 no-record-fits = refl
 
+-- it holds of every reading
 pub reading-range : (f : List ℕ) → InRange (readingOf f)
 reading-range f = go (ℕ-discrete (length f) 18)
   where
@@ -54,7 +58,9 @@ reading-range f = go (ℕ-discrete (length f) 18)
           numbered = number-below (bitAt f);
           marked = record-mark-most (recordOf (mended (bitAt f)));
         })
-    go (no w) = subst (λ (r : Reading). InRange r) (read-refused f w) (record { fits = no-record-fits; numbered = omega arith; marked = omega arith })
+    go (no w) =
+        subst (λ (r : Reading). InRange r) (read-refused f w)
+        (record { fits = no-record-fits; numbered = omega arith; marked = omega arith })
 
 -- so SY is one bit
 pub reading-sync : (f : List ℕ) → readingOf f .indices .sy < 2

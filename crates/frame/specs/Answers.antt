@@ -1,10 +1,10 @@
 -- What reading and writing answer: the cases, and the numbers that document 01 gives them.
-use mathlib.Core.Bool.{cond}
 use mathlib.Core.List.{List, [], _∷_}
 use Prim.Native.Nat.{ℕ}
 use lib.Dec.{eqb}
 use lib.ListN.{length}
 use Rattle.laws.specs.Tabulate.{tabulate}
+use Rattle.laws.specs.Unless.{unless}
 use Rattle.record.specs.Fields.{tooLarge}
 use Rattle.record.specs.declared.Record.{Record}
 use Rattle.lsp.specs.Table.{hertzOf}
@@ -38,8 +38,8 @@ readIn b =
 -- any bytes; a frame that is not eighteen of them is refused, and nothing is read then
 unfoldable pub readingOf : List ℕ → Reading
 readingOf s =
-    cond (eqb (length s) 18) (readIn (bitAt s))
-    (record { verdict = Verdict.WrongLength; indices = noRecord; number = 0; mark = 0 })
+    unless (eqb (length s) 18) (record { verdict = Verdict.WrongLength; indices = noRecord; number = 0; mark = 0 })
+    (readIn (bitAt s))
 
 -- the correction number of a reading; 0 where the frame was refused
 abbrev pub correctionNumber : Reading → ℕ
@@ -48,11 +48,11 @@ correctionNumber r = r .number
 -- what a record to write gets, given the length of the lent buffer: lowest refusal number first
 unfoldable pub writtenOf : Record → ℕ → Written
 writtenOf r n =
-    cond (eqb n 18)
-    (cond (eqb (tooLarge r) 0)
-    (cond (eqb (recordMark r) 0) (cond (eqb (r .sp) 0) Written.Frame Written.Expansion) (Written.Falling (recordMark r)))
-    (Written.TooLarge (tooLarge r)))
-    Written.WrongLength
+    unless (eqb n 18) Written.WrongLength
+    (unless (eqb (tooLarge r) 0) (Written.TooLarge (tooLarge r))
+    (unless (eqb (recordMark r) 0) (Written.Falling (recordMark r))
+    (unless (eqb (r .sp) 0) Written.Expansion
+    Written.Frame)))
 
 -- what a buffer holds after an answer: the frame, or what it held
 abbrev pub leftBy : Written → List ℕ → List ℕ → List ℕ
@@ -69,6 +69,10 @@ frameLeft r s = leftBy (writtenOf r (length s)) (frameOf r) s
 abbrev pub readRefusal : Verdict → ℕ
 readRefusal Verdict.Read = 0
 readRefusal Verdict.WrongLength = 1
+
+abbrev pub readTells : Verdict → List ℕ
+readTells Verdict.Read = []
+readTells Verdict.WrongLength = []
 
 abbrev pub refusalOf : Written → ℕ
 refusalOf Written.Frame = 0

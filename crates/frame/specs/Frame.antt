@@ -13,8 +13,9 @@ use Rattle.record.specs.declared.Record.{Record}
 use Rattle.frame.specs.Places.{fieldAt, bitIn}
 use Rattle.frame.specs.Parity.{number}
 
--- where place p stands among the eighteen bytes: its byte, and its bit there with 0 the lowest. This is the house rule on the order of
--- bits, and nothing else knows of it: place 1 is the top bit of byte 0, place 144 the lowest bit of byte 17.
+-- where place p stands among the eighteen bytes: its byte, and its bit there with 0 the lowest. This is the house
+-- rule on the order of bits, and nothing else knows of it: place 1 is the top bit of byte 0, place 144 the lowest bit
+-- of byte 17.
 abbrev pub standing : ℕ → ℕ × ℕ
 standing p = ((p - 1) / 8, 7 - (p - 1) % 8)
 

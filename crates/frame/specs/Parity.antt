@@ -11,7 +11,8 @@ use Rattle.frame.specs.Places.Name.{PD, PG, HP, SP}
 -- the fifteen guarded bits in the order of their correction numbers, 1 to 15
 abbrev pub guarded : List Name
 guarded =
-    HP 0 ∷ HP 1 ∷ PD 1 5 ∷ HP 2 ∷ PD 1 6 ∷ PD 1 7 ∷ PG 1 4 ∷ HP 3 ∷ PG 2 4 ∷ PD 3 5 ∷ PD 3 6 ∷ PD 3 7 ∷ PG 3 4 ∷ PG 4 4 ∷ SP ∷ []
+    HP 0 ∷ HP 1 ∷ PD 1 5 ∷ HP 2 ∷ PD 1 6 ∷ PD 1 7 ∷ PG 1 4 ∷ HP 3 ∷ PG 2 4 ∷ PD 3 5 ∷ PD 3 6 ∷ PD 3 7 ∷ PG 3 4 ∷ PG
+    4 4 ∷ SP ∷ []
 
 -- the bit that has correction number n
 abbrev pub guardedName : ℕ → Name
@@ -22,8 +23,8 @@ unfoldable pub guardedPlace : ℕ → ℕ
 guardedPlace zero = 0
 guardedPlace (suc n) = placeOf (fieldOf (guardedName (suc n))) (bitOf (guardedName (suc n)))
 
--- computed and received parity compared: of the guarded bits g 1 to g 15, those whose number has bit i, HP-i itself among them,
--- have an even sum (0) or an odd one (1)
+-- computed and received parity compared: of the guarded bits g 1 to g 15, those whose number has bit i, HP-i itself
+-- among them, have an even sum (0) or an odd one (1)
 abbrev pub check : (ℕ → ℕ) → ℕ → ℕ
 check g i = total (λ n. bit n i * g n) 15 % 2
 

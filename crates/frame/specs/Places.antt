@@ -7,7 +7,8 @@ use lib.ListN.{getD}
 use Rattle.laws.specs.Table.{both}
 use Rattle.record.specs.Fields.{widths}
 
--- a bit of a frame, by its abbreviation; the last number is the bit's, with 0 the least significant: LSP j-i is `LSP j i`, PD(n)-i is `PD n i`
+-- a bit of a frame, by its abbreviation; the last number is the bit's, with 0 the least significant: LSP j-i is `LSP
+-- j i`, PD(n)-i is `PD n i`
 pub data Name : Type 0 where
   LSP PD PG CI CG : ℕ → ℕ → Name
   HP : ℕ → Name
@@ -58,7 +59,8 @@ places =
     CI 3 2 ∷ LSP 4 2 ∷ PD 3 5 ∷ SY ∷
     []
 
--- the field that a bit belongs to, numbered as in document 01; the parity bits belong to no field of the record and stand under 0
+-- the field that a bit belongs to, numbered as in document 01; the parity bits belong to no field of the record and
+-- stand under 0
 abbrev pub fieldOf : Name → ℕ
 fieldOf (LSP j i) = j
 fieldOf (PD n i) = 10 + 4 * (n - 1) + 1

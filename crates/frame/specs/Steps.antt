@@ -5,12 +5,13 @@ use Prim.Native.Nat.{ℕ, _+_, _-_, _*_, _/_, _%_, _^_}
 use lib.Bits.{bitXor}
 use lib.Dec.{eqb}
 use lib.ListN.{getD, set}
-use Rattle.laws.specs.Total.{bit}
+use Rattle.laws.specs.Total.{total, bit}
 use Rattle.laws.specs.Tabulate.{tabulate}
 use Rattle.record.specs.Fields.{indexOf}
 use Rattle.record.specs.declared.Record.{Record}
 use Rattle.frame.specs.Places.{Name, places, fieldOf, bitOf}
 use Rattle.frame.specs.Parity.{guarded}
+use Rattle.frame.specs.Frame.{share}
 
 -- a name as one number, the field above its bit
 abbrev pub entryOf : Name → ℕ
@@ -21,6 +22,10 @@ entries = map entryOf places
 
 unfoldable pub guardedEntries : List ℕ
 guardedEntries = map entryOf guarded
+
+-- the indices by field as far as the first p places of the bits b give them
+unfoldable pub indicesUpTo : (ℕ → ℕ) → ℕ → List ℕ
+indicesUpTo b p = tabulate (λ f. total (share b f) p) 29
 
 -- the bit that an entry names, in a list of indices by field
 abbrev pub bitOfEntry : List ℕ → ℕ → ℕ

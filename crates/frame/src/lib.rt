@@ -3,14 +3,14 @@
 // number, the four parity bits HP-0 to HP-3 under 0.
 use record::Record;
 ghost use mathlib.Core.Path.{_≡_};
-ghost use Prim.Native.Nat.{_-_, _<_};
+ghost use Prim.Native.Nat.{_+_, _-_, _*_, _<_};
 ghost use lib.ListN.{length, getD};
 ghost use Rattle.laws.specs.Tabulate.{tabulate};
 ghost use Rattle.laws.specs.Total.{fromBits};
 ghost use Rattle.frame.specs.Parity.{numberOf};
-ghost use Rattle.frame.specs.Frame.{placeAt, bitAt, packed, indexIn, sent};
+ghost use Rattle.frame.specs.Frame.{placeAt, bitAt, packed, indexIn, sent, frameOf};
 ghost use Rattle.frame.specs.Answers.{readingOf, correctionNumber, writtenOf, frameLeft, recordMark};
-ghost use Rattle.frame.specs.Steps.{entries, guardedEntries, bitOfEntry, mendedFields, recordBy, fieldsOf};
+ghost use Rattle.frame.specs.Steps.{entries, guardedEntries, bitOfEntry, indicesUpTo, mendedFields, recordBy, fieldsOf};
 
 // Whether a frame was read. (Refusal 1: it was not eighteen bytes.)
 pub enum Verdict {
@@ -45,170 +45,40 @@ pub enum Written {
 }
 
 // The table of 3.8.2, place 1 first: the field in the upper digits, the bit in the last.
+#[rattlefmt::skip]
 const TABLE: [u16; 144] = [
-    0x184,
-    0x134,
-    0x011,
-    0x124,
-    0x153,
-    0x0d8,
-    0x170,
-    0x080,
-    0x103,
-    0x160,
-    0x0b5,
-    0x033,
-    0x113,
-    0x194,
-    0x0f1,
-    0x0a0,
-    0x0c3,
-    0x1a0,
-    0x052,
-    0x130,
-    0x000,
-    0x0d1,
-    0x198,
-    0x022,
-    0x141,
-    0x175,
-    0x0e3,
-    0x155,
-    0x070,
-    0x111,
-    0x137,
-    0x0d0,
-    0x180,
-    0x043,
-    0x161,
-    0x0d5,
-    0x0f0,
-    0x191,
-    0x090,
-    0x158,
-    0x0c4,
-    0x122,
-    0x0b3,
-    0x061,
-    0x154,
-    0x112,
-    0x0e4,
-    0x0f3,
-    0x012,
-    0x142,
-    0x001,
-    0x131,
-    0x1a3,
-    0x081,
-    0x140,
-    0x118,
-    0x171,
-    0x190,
-    0x032,
-    0x100,
-    0x0b6,
-    0x120,
-    0x156,
-    0x0a1,
-    0x0c1,
-    0x197,
-    0x133,
-    0x0e2,
-    0x053,
-    0x0d6,
-    0x020,
-    0x144,
-    0x0b4,
-    0x162,
-    0x071,
-    0x117,
-    0x150,
-    0x0f5,
-    0x041,
-    0x0e0,
-    0x183,
-    0x091,
-    0x136,
-    0x0d4,
-    0x121,
-    0x062,
-    0x193,
-    0x102,
-    0x173,
-    0x010,
-    0x1a2,
-    0x082,
-    0x114,
-    0x002,
-    0x0f2,
-    0x030,
-    0x0c2,
-    0x164,
-    0x0a2,
-    0x195,
-    0x110,
-    0x0b2,
-    0x051,
-    0x1b0,
-    0x182,
-    0x123,
-    0x021,
-    0x174,
-    0x0d2,
-    0x101,
-    0x157,
-    0x040,
-    0x115,
-    0x0b7,
-    0x0c0,
-    0x1a4,
-    0x050,
-    0x172,
-    0x0d3,
-    0x151,
-    0x072,
-    0x192,
-    0x0b1,
-    0x104,
-    0x163,
-    0x031,
-    0x0d7,
-    0x132,
-    0x116,
-    0x092,
-    0x181,
-    0x0e1,
-    0x0f4,
-    0x003,
-    0x060,
-    0x143,
-    0x196,
-    0x0b0,
-    0x023,
-    0x1a1,
-    0x152,
-    0x042,
-    0x135,
-    0x1c0,
+    0x184, 0x134, 0x011, 0x124, 0x153, 0x0d8, //   1 to 6: PG(4)-4, PD(3)-4, LSP 1-1, CG(2)-4, CI(3)-3, CI(1)-8
+    0x170, 0x080, 0x103, 0x160, 0x0b5, 0x033, //   7 to 12: PD(4)-0, LSP 8-0, PG(2)-3, CG(3)-0, PD(1)-5, LSP 3-3
+    0x113, 0x194, 0x0f1, 0x0a0, 0x0c3, 0x1a0, //  13 to 18: CI(2)-3, CI(4)-4, PD(2)-1, LSP 10-0, PG(1)-3, CG(4)-0
+    0x052, 0x130, 0x000, 0x0d1, 0x198, 0x022, //  19 to 24: LSP 5-2, PD(3)-0, HP-0, CI(1)-1, CI(4)-8, LSP 2-2
+    0x141, 0x175, 0x0e3, 0x155, 0x070, 0x111, //  25 to 30: PG(3)-1, PD(4)-5, CG(1)-3, CI(3)-5, LSP 7-0, CI(2)-1
+    0x137, 0x0d0, 0x180, 0x043, 0x161, 0x0d5, //  31 to 36: PD(3)-7, CI(1)-0, PG(4)-0, LSP 4-3, CG(3)-1, CI(1)-5
+    0x0f0, 0x191, 0x090, 0x158, 0x0c4, 0x122, //  37 to 42: PD(2)-0, CI(4)-1, LSP 9-0, CI(3)-8, PG(1)-4, CG(2)-2
+    0x0b3, 0x061, 0x154, 0x112, 0x0e4, 0x0f3, //  43 to 48: PD(1)-3, LSP 6-1, CI(3)-4, CI(2)-2, CG(1)-4, PD(2)-3
+    0x012, 0x142, 0x001, 0x131, 0x1a3, 0x081, //  49 to 54: LSP 1-2, PG(3)-2, HP-1, PD(3)-1, CG(4)-3, LSP 8-1
+    0x140, 0x118, 0x171, 0x190, 0x032, 0x100, //  55 to 60: PG(3)-0, CI(2)-8, PD(4)-1, CI(4)-0, LSP 3-2, PG(2)-0
+    0x0b6, 0x120, 0x156, 0x0a1, 0x0c1, 0x197, //  61 to 66: PD(1)-6, CG(2)-0, CI(3)-6, LSP 10-1, PG(1)-1, CI(4)-7
+    0x133, 0x0e2, 0x053, 0x0d6, 0x020, 0x144, //  67 to 72: PD(3)-3, CG(1)-2, LSP 5-3, CI(1)-6, LSP 2-0, PG(3)-4
+    0x0b4, 0x162, 0x071, 0x117, 0x150, 0x0f5, //  73 to 78: PD(1)-4, CG(3)-2, LSP 7-1, CI(2)-7, CI(3)-0, PD(2)-5
+    0x041, 0x0e0, 0x183, 0x091, 0x136, 0x0d4, //  79 to 84: LSP 4-1, CG(1)-0, PG(4)-3, LSP 9-1, PD(3)-6, CI(1)-4
+    0x121, 0x062, 0x193, 0x102, 0x173, 0x010, //  85 to 90: CG(2)-1, LSP 6-2, CI(4)-3, PG(2)-2, PD(4)-3, LSP 1-0
+    0x1a2, 0x082, 0x114, 0x002, 0x0f2, 0x030, //  91 to 96: CG(4)-2, LSP 8-2, CI(2)-4, HP-2, PD(2)-2, LSP 3-0
+    0x0c2, 0x164, 0x0a2, 0x195, 0x110, 0x0b2, //  97 to 102: PG(1)-2, CG(3)-4, LSP 10-2, CI(4)-5, CI(2)-0, PD(1)-2
+    0x051, 0x1b0, 0x182, 0x123, 0x021, 0x174, // 103 to 108: LSP 5-1, SP, PG(4)-2, CG(2)-3, LSP 2-1, PD(4)-4
+    0x0d2, 0x101, 0x157, 0x040, 0x115, 0x0b7, // 109 to 114: CI(1)-2, PG(2)-1, CI(3)-7, LSP 4-0, CI(2)-5, PD(1)-7
+    0x0c0, 0x1a4, 0x050, 0x172, 0x0d3, 0x151, // 115 to 120: PG(1)-0, CG(4)-4, LSP 5-0, PD(4)-2, CI(1)-3, CI(3)-1
+    0x072, 0x192, 0x0b1, 0x104, 0x163, 0x031, // 121 to 126: LSP 7-2, CI(4)-2, PD(1)-1, PG(2)-4, CG(3)-3, LSP 3-1
+    0x0d7, 0x132, 0x116, 0x092, 0x181, 0x0e1, // 127 to 132: CI(1)-7, PD(3)-2, CI(2)-6, LSP 9-2, PG(4)-1, CG(1)-1
+    0x0f4, 0x003, 0x060, 0x143, 0x196, 0x0b0, // 133 to 138: PD(2)-4, HP-3, LSP 6-0, PG(3)-3, CI(4)-6, PD(1)-0
+    0x023, 0x1a1, 0x152, 0x042, 0x135, 0x1c0, // 139 to 144: LSP 2-3, CG(4)-1, CI(3)-2, LSP 4-2, PD(3)-5, SY
 ];
 
 // The guarded bits by their correction numbers, 1 first (3.9), in the same form.
+#[rattlefmt::skip]
 const GUARDED: [u16; 15] = [
-    0x000,
-    0x001,
-    0x0b5,
-    0x002,
-    0x0b6,
-    0x0b7,
-    0x0c4,
-    0x003,
-    0x104,
-    0x135,
-    0x136,
-    0x137,
-    0x144,
-    0x184,
-    0x1b0,
+    0x000, 0x001, 0x0b5, 0x002, 0x0b6, //  1 to 5: HP-0, HP-1, PD(1)-5, HP-2, PD(1)-6
+    0x0b7, 0x0c4, 0x003, 0x104, 0x135, //  6 to 10: PD(1)-7, PG(1)-4, HP-3, PG(2)-4, PD(3)-5
+    0x136, 0x137, 0x144, 0x184, 0x1b0, // 11 to 15: PD(3)-6, PD(3)-7, PG(3)-4, PG(4)-4, SP
 ];
 
 // Reads a frame.
@@ -259,10 +129,18 @@ pub fn write(r: Record, frame: &mut [u8]) -> Written
     if r.sp != 0 {
         return Written::Expansion;
     }
+    lay(r, frame);
+    Written::Frame
+}
+
+// Lays the frame of a record into eighteen bytes.
+fn lay(r: Record, frame: &mut [u8])
+    requires { ⌜ length (now frame) ≡ 18 ⌝ }
+    ensures { λ _. ⌜ now (frame .exit) ≡ frameOf r ⌝ }
+{
     let mut fields = to_fields(r);
     fields[0] = number_of(fields) as u16;
     pack(fields, frame);
-    Written::Frame
 }
 
 // The order mark of a record.
@@ -297,18 +175,29 @@ fn gather(frame: &[u8]) -> [u16; 29]
     let mut fields = [0u16; 29];
     let mut n = 0;
     while n < 18 {
-        let byte = frame[n];
-        let from = 8 * n;
-        let mut q = 0;
-        while q < 8 {
-            let entry = table[from + q];
-            let f = (entry / 16) as usize;
-            fields[f] += (((byte >> (7 - q)) % 2) as u16) << (entry % 16);
-            q += 1;
-        }
+        add_byte(frame, n, &table, &mut fields);
         n += 1;
     }
     fields
+}
+
+// Adds the eight bits of byte n to the indices that the bytes before it gave, the top bit at the first of its places.
+fn add_byte(frame: &[u8], n: usize, table: &[u16], fields: &mut [u16])
+    requires { ⌜ n < length (now frame) ⌝ }
+    requires { ⌜ n < 18 ⌝ }
+    requires { ⌜ now table ≡ entries ⌝ }
+    requires { ⌜ now fields ≡ indicesUpTo (bitAt (now frame)) (8 * n) ⌝ }
+    ensures { λ _. ⌜ now (fields .exit) ≡ indicesUpTo (bitAt (now (frame .entry))) (8 * (n + 1)) ⌝ }
+{
+    let byte = frame[n];
+    let from = 8 * n;
+    let mut q = 0;
+    while q < 8 {
+        let entry = table[from + q];
+        let f = (entry / 16) as usize;
+        fields[f] += (((byte >> (7 - q)) % 2) as u16) << (entry % 16);
+        q += 1;
+    }
 }
 
 // The correction number of a list of indices by field: the exclusive or of the numbers of the guarded bits that are 1.
@@ -346,31 +235,26 @@ fn mend(fields: [u16; 29], number: usize) -> [u16; 29]
 }
 
 // The record of a list of indices by field.
-fn to_record(v: [u16; 29]) -> Record
-    ensures { λ r. ⌜ r ≡ recordBy v ⌝ }
+fn to_record(fields: [u16; 29]) -> Record
+    ensures { λ r. ⌜ r ≡ recordBy fields ⌝ }
 {
+    let mut lsp = [0u16; 10];
+    let mut k = 0;
+    while k < 10 {
+        lsp[k] = fields[k + 1];
+        k += 1;
+    }
+    let mut subframes = [0u16; 16];
+    let mut n = 0;
+    while n < 16 {
+        subframes[n] = fields[n + 11];
+        n += 1;
+    }
     Record {
-        lsp: [v[1], v[2], v[3], v[4], v[5], v[6], v[7], v[8], v[9], v[10]],
-        subframes: [
-            v[11],
-            v[12],
-            v[13],
-            v[14],
-            v[15],
-            v[16],
-            v[17],
-            v[18],
-            v[19],
-            v[20],
-            v[21],
-            v[22],
-            v[23],
-            v[24],
-            v[25],
-            v[26],
-        ],
-        sp: v[27],
-        sy: v[28],
+        lsp,
+        subframes,
+        sp: fields[27],
+        sy: fields[28],
     }
 }
 
@@ -378,39 +262,22 @@ fn to_record(v: [u16; 29]) -> Record
 fn to_fields(r: Record) -> [u16; 29]
     ensures { λ v. ⌜ v ≡ fieldsOf r ⌝ }
 {
-    let l = r.lsp;
-    let s = r.subframes;
-    [
-        0,
-        l[0],
-        l[1],
-        l[2],
-        l[3],
-        l[4],
-        l[5],
-        l[6],
-        l[7],
-        l[8],
-        l[9],
-        s[0],
-        s[1],
-        s[2],
-        s[3],
-        s[4],
-        s[5],
-        s[6],
-        s[7],
-        s[8],
-        s[9],
-        s[10],
-        s[11],
-        s[12],
-        s[13],
-        s[14],
-        s[15],
-        r.sp,
-        r.sy,
-    ]
+    let mut fields = [0u16; 29];
+    let lsp = r.lsp;
+    let mut k = 0;
+    while k < 10 {
+        fields[k + 1] = lsp[k];
+        k += 1;
+    }
+    let subframes = r.subframes;
+    let mut n = 0;
+    while n < 16 {
+        fields[n + 11] = subframes[n];
+        n += 1;
+    }
+    fields[27] = r.sp;
+    fields[28] = r.sy;
+    fields
 }
 
 // Byte k of the frame that the indices are sent in: eight places of the table, the first of them at the top.

@@ -24,17 +24,20 @@ abbrev pub Reads : List ℕ → List ℕ → ℤ → List ℕ → Type 0
 Reads s o z next = (z ≡ readResult s (length o)) × (next ≡ recordLeft s o)
 
 module _ (s o : List ℕ) where
+  -- the buffer for the record is not 56 bytes: -1, and it stays
   pub wrong-record : (length o ≡ 56 → ⊥) → Reads s o (refused 1) o
   unfolding readResult recordLeft
   wrong-record e = rw (ne-eqb (length o) 56 e) (refl, refl)
 
   module _ (a : Reading) (long : length o ≡ 56) (is : a ≡ readingOf s) where
+    -- the frame is not eighteen bytes: -1, and the buffer stays
     pub wrong-frame : a .verdict ≡ Verdict.WrongLength → Reads s o (refused 1) o
     unfolding readResult recordLeft
     wrong-frame v = rw (eq-eqb (length o) 56 long, ← is, v) (refl, refl)
 
     -- the mark and the correction number n of what was read are told, and its record put
-    pub was-read : (n : ℕ) (next : List ℕ) → a .verdict ≡ Verdict.Read → n ≡ correctionNumber a → next ≡ bytesOf (a .indices)
+    pub was-read : (n : ℕ) (next : List ℕ) → a .verdict ≡ Verdict.Read → n ≡ correctionNumber a
+        → next ≡ bytesOf (a .indices)
         → Reads s o (toZ w32 (16 * a .mark + n)) next
     unfolding readResult recordLeft
     was-read n next v numbered e =
@@ -48,12 +51,14 @@ abbrev pub Writes : List ℕ → List ℕ → ℤ → List ℕ → Type 0
 Writes s o z next = (z ≡ writeResult s (length o)) × (next ≡ frameLeftBy s o)
 
 module _ (s o : List ℕ) where
+  -- the record is not 56 bytes: -1, and the buffer stays
   pub wrong-bytes : (length s ≡ 56 → ⊥) → Writes s o (refused 1) o
   unfolding writeResult frameLeftBy
   wrong-bytes e = rw (ne-eqb (length s) 56 e) (refl, refl)
 
   -- a record was taken out of the bytes and its frame asked for
-  pub was-asked : (r : Record) (a w : Written) (next : List ℕ) → length s ≡ 56 → r ≡ recordIn s → a ≡ writtenOf r (length o)
+  pub was-asked : (r : Record) (a w : Written) (next : List ℕ) → length s ≡ 56 → r ≡ recordIn s
+      → a ≡ writtenOf r (length o)
       → next ≡ frameLeft r o → a ≡ w → Writes s o (refused (refusalOf w)) next
   unfolding writeResult frameLeftBy
   was-asked r a w next long is answered left case =

@@ -1,16 +1,11 @@
--- What the definitions of specs/ say, for whoever cites the contracts: 56 bytes and a record are two ways to write the same, and the
--- results have their ranges.
+-- For whoever cites the contracts: 56 bytes and a record are two ways to write the same.
 -- Assumes nothing.
-use mathlib.Core.Path.{_≡_, _∙_, sym, refl, ap, subst}
-use mathlib.Core.Bool.{Bool, true, false, cond}
+use mathlib.Core.Path.{_≡_, _∙_, sym, ap, subst}
 use mathlib.Core.List.{List}
-use mathlib.Core.Logic.{_⊎_, inl, inr}
 use Prim.Native.Nat.{ℕ, _+_, _-_, _*_, _/_, _%_, _<_, _≤_}
 use native.Mathlib.Omega.{arith}
 use native.Mathlib.Decide.{ℕ-discrete}
 use borrow.Author.Tests.{eq-eqb, ne-eqb}
-use lib.Dec.{eqb}
-use lib.IntN.{ℤ, pos}
 use lib.ListN.{length, getD}
 use lib.Seq.{ext-getD}
 use Rattle.laws.specs.Bytes.{pairAt}
@@ -18,20 +13,17 @@ use Rattle.laws.proofs.Tabulate.{length-tabulate, getD-tabulate}
 use Rattle.record.specs.Fields.{indexOf}
 use Rattle.record.specs.declared.Record.{Record}
 use Rattle.record.proofs.Laws.{index-given, record-is}
-use Rattle.frame.specs.Answers.{readingOf, correctionNumber, writtenOf, refusalOf}
-use Rattle.frame.specs.declared.Reading.{Reading}
-use Rattle.frame.specs.declared.Verdict.{Verdict}
 use Rattle.frame.specs.declared.Verdict.the-variants as Verdict
-use Rattle.frame.specs.declared.Written.{Written}
 use Rattle.frame.specs.declared.Written.the-variants as Written
 use Rattle.gateway.specs.Pairs.{recordByte, bytesOf, pairIn, recordIn}
-use Rattle.gateway.specs.Results.{refused, readAnswer, readResult, writeResult}
 use Rattle.gateway.proofs.Pairs.{low-byte, high-byte}
 
+-- a record has 56 bytes
 pub length-bytes : (r : Record) → length (bytesOf r) ≡ 56
 unfolding bytesOf
 length-bytes r = length-tabulate (recordByte r) 56
 
+-- each of them as defined
 pub byte-at : (r : Record) (i : ℕ) → i < 56 → getD (bytesOf r) i 0 ≡ recordByte r i
 unfolding bytesOf
 byte-at r i h = getD-tabulate (recordByte r) 0 56 i h
@@ -40,8 +32,10 @@ byte-at r i h = getD-tabulate (recordByte r) 0 56 i h
 pub index-of-bytes : (r : Record) (f : ℕ) → 1 ≤ f → f ≤ 28 → pairIn (bytesOf r) f ≡ indexOf r f
 unfolding pairAt
 index-of-bytes r f a b =
-    let low : getD (bytesOf r) (2 * (f - 1)) 0 ≡ indexOf r (f - 1 + 1) % 256 = byte-at r (2 * (f - 1)) (omega arith) ∙ low-byte r (f - 1) in
-    let high : getD (bytesOf r) (2 * (f - 1) + 1) 0 ≡ indexOf r (f - 1 + 1) / 256 = byte-at r (2 * (f - 1) + 1) (omega arith) ∙ high-byte r (f - 1) in
+    let low : getD (bytesOf r) (2 * (f - 1)) 0 ≡ indexOf r (f - 1 + 1) % 256 = byte-at r (2 * (f - 1)) (omega arith)
+    ∙ low-byte r (f - 1) in
+    let high : getD (bytesOf r) (2 * (f - 1) + 1) 0 ≡ indexOf r (f - 1 + 1) / 256 = byte-at r (2 * (f - 1) + 1)
+    (omega arith) ∙ high-byte r (f - 1) in
     let same : indexOf r (f - 1 + 1) ≡ indexOf r f = ap (indexOf r) there in
     omega (arith, low, high, same)
   where
@@ -72,47 +66,15 @@ bytes-of-record s long bytes =
     half : (i : ℕ) → i < 56 → Dec (i % 2 ≡ 0) → recordByte (recordIn s) i ≡ getD s i 0
     half i l (yes e) =
         let at : 2 * (i / 2 + 1 - 1) ≡ i = omega arith in
-        let whole : indexOf (recordIn s) (i / 2 + 1) ≡ getD s i 0 + 256 * getD s (i + 1) 0 = index i l ∙ ap (pairAt s) at in
+        let whole : indexOf (recordIn s) (i / 2 + 1) ≡ getD s i 0 + 256 * getD s (i + 1) 0 = index i l
+        ∙ ap (pairAt s) at in
         let small = bytes i l in
         rw (eq-eqb (i % 2) 0 e) (omega (arith, whole, small))
     half i l (no e) =
         let at : 2 * (i / 2 + 1 - 1) ≡ i - 1 = omega arith in
         let next : i - 1 + 1 ≡ i = omega arith in
         let high : getD s (i - 1 + 1) 0 ≡ getD s i 0 = ap (λ (k : ℕ). getD s k 0) next in
-        let whole : indexOf (recordIn s) (i / 2 + 1) ≡ getD s (i - 1) 0 + 256 * getD s (i - 1 + 1) 0 = index i l ∙ ap (pairAt s) at in
+        let whole : indexOf (recordIn s) (i / 2 + 1) ≡ getD s (i - 1) 0 + 256 * getD s (i - 1 + 1) 0 = index i l
+        ∙ ap (pairAt s) at in
         let small = bytes (i - 1) (omega arith) in
         rw (ne-eqb (i % 2) 0 e) (omega (arith, whole, small, high))
-
--- the reader answers -1 or 16 times the mark plus the number, which `reading-small` and `reading-apart` of Ranges bound and take apart
-pub read-result : (s : List ℕ) (n : ℕ)
-    → (readResult s n ≡ refused 1) ⊎ (readResult s n ≡ pos (16 * readingOf s .mark + correctionNumber (readingOf s)))
-unfolding readResult
-read-result s n = sized (eqb n 56)
-  where
-    told : (a : Reading) (v : Verdict) → a .verdict ≡ v → (readAnswer a ≡ refused 1) ⊎ (readAnswer a ≡ pos (16 * a .mark + correctionNumber a))
-    told a Verdict.Read e = inr (rw e)
-    told a Verdict.WrongLength e = inl (rw e)
-
-    sized : (t : Bool) → let z = cond t (readAnswer (readingOf s)) (refused 1) in (z ≡ refused 1) ⊎ (z ≡ pos (16 * readingOf s .mark + correctionNumber (readingOf s)))
-    sized true = told (readingOf s) (readingOf s .verdict) refl
-    sized false = inl refl
-
--- the writer answers 0 or one of the four refusals 1, 2, 3 and 6
-pub write-result : (s : List ℕ) (n : ℕ)
-    → (writeResult s n ≡ pos 0) ⊎ ((writeResult s n ≡ refused 1) ⊎ ((writeResult s n ≡ refused 2) ⊎ ((writeResult s n ≡ refused 3) ⊎ (writeResult s n ≡ refused 6))))
-unfolding writeResult
-write-result s n = sized (eqb (length s) 56)
-  where
-    One : ℤ → Type 0
-    One z = (z ≡ pos 0) ⊎ ((z ≡ refused 1) ⊎ ((z ≡ refused 2) ⊎ ((z ≡ refused 3) ⊎ (z ≡ refused 6))))
-
-    told : (w : Written) → One (refused (refusalOf w))
-    told Written.Frame = inl refl
-    told Written.WrongLength = inr (inl refl)
-    told (Written.TooLarge f) = inr (inr (inl refl))
-    told (Written.Falling m) = inr (inr (inr (inl refl)))
-    told Written.Expansion = inr (inr (inr (inr refl)))
-
-    sized : (t : Bool) → One (refused (cond t (refusalOf (writtenOf (recordIn s) n)) 1))
-    sized true = told (writtenOf (recordIn s) n)
-    sized false = inr (inl refl)

@@ -1,4 +1,5 @@
--- What the reader answers where it reads: 16 times the order mark plus the correction number is below 160 and comes apart again.
+-- What the reader answers where it reads: 16 times the order mark plus the correction number is below 160 and comes
+-- apart again.
 -- Assumes nothing.
 use mathlib.Core.Path.{_≡_}
 use mathlib.Core.List.{List}
@@ -8,9 +9,11 @@ use Rattle.frame.specs.Answers.{readingOf, correctionNumber}
 use Rattle.frame.proofs.Readings.{reading-range}
 
 module _ (s : List ℕ) where
+  -- it is below 160
   pub reading-small : 16 * readingOf s .mark + correctionNumber (readingOf s) < 160
   reading-small = let r = reading-range s in omega (arith, r .numbered, r .marked)
 
+  -- the mark is its upper part, the number its remainder on 16
   pub reading-apart : ((16 * readingOf s .mark + correctionNumber (readingOf s)) / 16 ≡ readingOf s .mark)
       × ((16 * readingOf s .mark + correctionNumber (readingOf s)) % 16 ≡ correctionNumber (readingOf s))
   reading-apart = let r = reading-range s in (omega (arith, r .numbered), omega (arith, r .numbered))

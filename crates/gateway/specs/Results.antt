@@ -1,10 +1,10 @@
 -- What the two functions for C answer, and what they leave in the buffer that they are lent to write.
-use mathlib.Core.Bool.{cond}
 use mathlib.Core.List.{List}
 use Prim.Native.Nat.{ℕ, _+_, _*_}
 use lib.Dec.{eqb}
 use lib.IntN.{ℤ, pos, negℤ}
 use lib.ListN.{length}
+use Rattle.laws.specs.Unless.{unless}
 use Rattle.frame.specs.Answers.{readingOf, correctionNumber, writtenOf, frameLeft, readRefusal, refusalOf}
 use Rattle.frame.specs.declared.Reading.{Reading}
 use Rattle.frame.specs.declared.Verdict.the-variants as Verdict
@@ -19,23 +19,25 @@ refused n = negℤ (pos n)
 -- the reader's result: 16 times the order mark plus the correction number, or the refusal
 abbrev pub readAnswer : Reading → ℤ
 readAnswer a =
-    cond (eqb (readRefusal (a .verdict)) 0) (pos (16 * a .mark + correctionNumber a)) (refused (readRefusal (a .verdict)))
+    unless (eqb (readRefusal (a .verdict)) 0) (refused (readRefusal (a .verdict)))
+    (pos (16 * a .mark + correctionNumber a))
 
 -- of a frame and the length of the buffer for the record
 unfoldable pub readResult : List ℕ → ℕ → ℤ
-readResult s n = cond (eqb n 56) (readAnswer (readingOf s)) (refused (readRefusal Verdict.WrongLength))
+readResult s n = unless (eqb n 56) (refused (readRefusal Verdict.WrongLength)) (readAnswer (readingOf s))
 
 -- what that buffer, which held o, then holds: the record that was read; after a refusal what it held
 abbrev pub readInto : Reading → List ℕ → List ℕ
-readInto a o = cond (eqb (readRefusal (a .verdict)) 0) (bytesOf (a .indices)) o
+readInto a o = unless (eqb (readRefusal (a .verdict)) 0) o (bytesOf (a .indices))
 
 unfoldable pub recordLeft : List ℕ → List ℕ → List ℕ
-recordLeft s o = cond (eqb (length o) 56) (readInto (readingOf s) o) o
+recordLeft s o = unless (eqb (length o) 56) o (readInto (readingOf s) o)
 
 -- the writer's result: 0, or the refusal; of the bytes of a record and the length of the buffer for the frame
 unfoldable pub writeResult : List ℕ → ℕ → ℤ
-writeResult s n = refused (cond (eqb (length s) 56) (refusalOf (writtenOf (recordIn s) n)) (refusalOf Written.WrongLength))
+writeResult s n =
+    refused (unless (eqb (length s) 56) (refusalOf Written.WrongLength) (refusalOf (writtenOf (recordIn s) n)))
 
 -- what that buffer, which held o, then holds: the record's frame; after a refusal what it held
 unfoldable pub frameLeftBy : List ℕ → List ℕ → List ℕ
-frameLeftBy s o = cond (eqb (length s) 56) (frameLeft (recordIn s) o) o
+frameLeftBy s o = unless (eqb (length s) 56) o (frameLeft (recordIn s) o)

@@ -33,6 +33,10 @@ module _ {A : Type 0} (d : A) (f : ℕ → A) (n : ℕ) where
       here′ : (k : ℕ) → k < i + 1 → getD (set l i v) k d ≡ f k
       here′ k q = here″ k q (ℕ-discrete k i)
 
+  -- fewer of them do, too
+  pub filled-fewer : {i : ℕ} (j : ℕ) {l : List A} → Filled d f n i l → j ≤ i → Filled d f n j l
+  filled-fewer j p h = record { long = p .long; upto = omega (arith, p .upto); here = λ k q. p .here k (omega arith) }
+
   -- a list filled to its end is the whole list of f
   pub filled-all : (l : List A) → Filled d f n n l → l ≡ tabulate f n
   filled-all l p = sym (tabulate-is f d l n (p .long) (λ k h. sym (p .here k h)))

@@ -9,7 +9,7 @@ use lib.IntN.{pos, natAbs}
 use lib.ListN.{length}
 use Rattle.laws.proofs.Tabulate.{length-tabulate}
 use Rattle.frame.specs.Frame.{frameOf}
-use Rattle.frame.specs.Answers.{readingOf, writtenOf, frameLeft, leftBy, refusalOf}
+use Rattle.frame.specs.Answers.{readingOf, correctionNumber, writtenOf, frameLeft, leftBy, refusalOf}
 use Rattle.frame.specs.declared.Reading.{Reading}
 use Rattle.frame.specs.declared.Verdict.the-variants as Verdict
 use Rattle.frame.specs.declared.Written.{Written}
@@ -25,14 +25,19 @@ use Rattle.promises.proofs.Frames.{reads-back}
 
 pub pairs-hold-record : PairsHoldRecord
 unfolding PairsHoldRecord
-pairs-hold-record = (λ r shaped. record-of-bytes r (shaped .parameters) (shaped .indices), λ s full. bytes-of-record s (full .long) (full .bytes))
+pairs-hold-record = (
+  λ r shaped. record-of-bytes r (shaped .parameters) (shaped .indices),
+  λ s full. bytes-of-record s (full .long) (full .bytes),
+)
 
 -- where both buffers have their lengths, a reading is told and put
 module _ (s o : List ℕ) (read : readingOf s .verdict ≡ Verdict.Read) (long : length o ≡ 56) where
-  pub read-result-is : readResult s (length o) ≡ pos (16 * readingOf s .mark + readingOf s .number)
+  -- the result has the mark and the number
+  pub read-result-is : readResult s (length o) ≡ pos (16 * readingOf s .mark + correctionNumber (readingOf s))
   unfolding readResult
   read-result-is = rw (eq-eqb (length o) 56 long, read)
 
+  -- the buffer holds the record
   pub record-left-is : recordLeft s o ≡ bytesOf (readingOf s .indices)
   unfolding recordLeft
   record-left-is = rw (eq-eqb (length o) 56 long, read)
@@ -40,7 +45,7 @@ module _ (s o : List ℕ) (read : readingOf s .verdict ≡ Verdict.Read) (long :
 pub read-tells : ReadTells
 unfolding ReadTells
 read-tells s o eighteen long = record {
-  told = 16 * readingOf s .mark + readingOf s .number;
+  told = 16 * readingOf s .mark + correctionNumber (readingOf s);
   result = read-result-is s o read long;
   mark = reading-apart s .0;
   number = reading-apart s .1;
@@ -52,10 +57,12 @@ read-tells s o eighteen long = record {
 
 -- the writer's result and buffer, where the record has 56 bytes
 module _ (s o : List ℕ) (long : length s ≡ 56) where
-  result-is : writeResult s (length o) ≡ refused (refusalOf (writtenOf (recordIn s) (length o)))
+  -- the result is minus the number of the writer's answer
+  pub result-is : writeResult s (length o) ≡ refused (refusalOf (writtenOf (recordIn s) (length o)))
   unfolding writeResult
   result-is = rw (eq-eqb (length s) 56 long)
 
+  -- the buffer holds what the writer leaves of the record in the bytes
   left-is : frameLeftBy s o ≡ frameLeft (recordIn s) o
   unfolding frameLeftBy
   left-is = rw (eq-eqb (length s) 56 long)
@@ -73,20 +80,27 @@ module _ (s o : List ℕ) (long : length s ≡ 56) where
 
 pub write-tells : WriteTells
 unfolding WriteTells frameLeft
-write-tells s o long =
-    (result-is s o long, λ e. left-is s o long ∙ ap (λ (a : Written). leftBy a (frameOf (recordIn s)) o) (zero-is-frame s o long e))
+write-tells s o long = (
+  result-is s o long,
+  λ e. left-is s o long
+      ∙ ap (λ (a : Written). leftBy a (frameOf (recordIn s)) o) (zero-is-frame s o long e),
+)
 
 pub boundary-reads-back : BoundaryReadsBack
 unfolding BoundaryReadsBack ReadsBack recordIn
 boundary-reads-back s o p full room e = (
   read-result-is (frameLeftBy s o) p (ap (λ (x : Reading). x .verdict) back) room
-      ∙ ap (λ (x : Reading). pos (16 * x .mark + x .number)) back,
+      ∙ ap (λ (x : Reading). pos (16 * x .mark + correctionNumber x)) back,
   record-left-is (frameLeftBy s o) p (ap (λ (x : Reading). x .verdict) back) room
       ∙ ap (λ (x : Reading). bytesOf (x .indices)) back ∙ bytes-of-record s (full .long) (full .bytes),
 )
   where
     shaped : Shaped (recordIn s)
-    shaped = record { parameters = length-tabulate (λ k. pairIn s (k + 1)) 10; indices = length-tabulate (λ k. pairIn s (k + 11)) 16 }
+    shaped =
+        record {
+          parameters = length-tabulate (λ k. pairIn s (k + 1)) 10;
+          indices = length-tabulate (λ k. pairIn s (k + 11)) 16;
+        }
 
     back : readingOf (frameLeftBy s o) ≡ record { verdict = Verdict.Read; indices = recordIn s; number = 0; mark = 0 }
     back = ap readingOf (left-is s o (full .long)) ∙ reads-back (recordIn s) o shaped (zero-is-frame s o (full .long) e)

@@ -2,10 +2,12 @@
 -- Assumes nothing.
 use mathlib.Core.Path.{_≡_, _∙_, sym, refl, ap, subst}
 use mathlib.Core.List.{List, [], _∷_}
-use Prim.Native.Nat.{ℕ, _<_, _≤_}
+use Prim.Native.Nat.{ℕ, _+_, _*_, _<_, _≤_}
 use native.Mathlib.Omega.{arith}
-use native.Mathlib.Decide.{decLe}
-use lib.IntN.{ℤ}
+use native.Mathlib.Decide.{ℕ-discrete, decLe}
+use borrow.Author.Tests.{eq-eqb, ne-eqb}
+use lib.IntN.{ℤ, pos, negℤ}
+use lib.ListN.{length}
 use Rattle.record.specs.declared.Record.{Record}
 use Rattle.gains.specs.Gains.{gainOf}
 use Rattle.gains.specs.Gains as gain
@@ -23,10 +25,13 @@ use Rattle.lsp.specs.declared.Verdict.the-variants as Lsp
 use Rattle.codebook.specs.Code as code
 use Rattle.codebook.specs.declared.Written as code-written
 use Rattle.codebook.specs.declared.Written.the-variants as Code
-use Rattle.frame.specs.Answers.{writtenOf}
+use Rattle.frame.specs.Answers.{readingOf, correctionNumber, writtenOf}
 use Rattle.frame.specs.Answers as frame
+use Rattle.frame.specs.declared.Reading.{Reading}
+use Rattle.frame.specs.declared.Verdict.the-variants as Verdict
 use Rattle.frame.specs.declared.Written.{Written}
 use Rattle.frame.specs.declared.Written.the-variants as Written
+use Rattle.frame.proofs.Answered.{read-eighteen, read-refused}
 use Rattle.values.specs.Values.{valuesOf}
 use Rattle.values.specs.Outcome as hearing
 use Rattle.values.specs.declared.Outcome.{Outcome}
@@ -41,19 +46,27 @@ use Rattle.blocks.specs.declared.Ending.the-variants as Ending
 use Rattle.recording.specs.Judged.{judgedOf, judgedRefusal, judgedTells}
 use Rattle.recording.specs.declared.Judged.{Judged}
 use Rattle.recording.specs.declared.Judged.the-variants as Judged
-use Rattle.promises.specs.Refused.{WriterGives, WriterRefuses, HearingGives, HearingRefuses, HertzGives, HertzRefuses}
-use Rattle.promises.specs.Refused.{MeaningGives, MeaningRefuses, CodingGives, DelaysRefuse, CodeGives, CodeRefuses}
+use Rattle.gateway.specs.Pairs.{recordIn}
+use Rattle.gateway.specs.Results.{refused, readResult, writeResult}
+use Rattle.promises.specs.Refused.{WriterGives, WriterRefuses, HearingGives, HearingRefuses, HertzGives}
+use Rattle.promises.specs.Refused.{HertzRefuses, MeaningGives, MeaningRefuses, CodingGives, DelaysRefuse}
+use Rattle.promises.specs.Refused.{CodeGives, CodeRefuses}
 use Rattle.promises.specs.Rule.{Given}
-use Rattle.promises.specs.Numbers.{WriterTable, write-length, write-index, write-fall, write-expansion, write-frame, WriterNumbers}
-use Rattle.promises.specs.Numbers.{HearingTable, hear-index, hear-expansion, hear-values, HearingNumbers}
-use Rattle.promises.specs.Numbers.{HertzTable, hertz-index, hertz-values, HertzNumbers}
-use Rattle.promises.specs.Numbers.{MeaningTable, meaning-index, meaning-delays, MeaningNumbers}
+use Rattle.promises.specs.Numbers.{WriterTable, write-length, write-index, write-fall, write-expansion}
+use Rattle.promises.specs.Numbers.{write-frame, WriterNumbers, HearingTable, hear-index, hear-expansion}
+use Rattle.promises.specs.Numbers.{hear-values, HearingNumbers, HertzTable, hertz-index, hertz-values}
+use Rattle.promises.specs.Numbers.{HertzNumbers, MeaningTable, meaning-index, meaning-delays, MeaningNumbers}
 use Rattle.promises.specs.Numbers.{DelayTable, delay-unlisted, delay-outside, delay-codes, DelayNumbers}
-use Rattle.promises.specs.Numbers.{CodeTable, code-length, code-index, code-elements, CodeNumbers}
-use Rattle.promises.specs.Numbers.{GainTable, gain-index, gain-entry, GainNumbers}
-use Rattle.promises.specs.Numbers.{RecordingTable, too-long, header-cut, past-end, wrong-size, unknown-kind, out-of-turn}
-use Rattle.promises.specs.Numbers.{end-missing, wrong-count, extra, sound, RecordingNumbers}
-use Rattle.promises.proofs.Refused.{writer-refuses, hearing-refuses, hertz-refuses, meaning-refuses, delays-refuse, code-refuses}
+use Rattle.promises.specs.Numbers.{CodeTable, code-length, code-index, code-elements, CodeNumbers, GainTable}
+use Rattle.promises.specs.Numbers.{gain-index, gain-entry, GainNumbers, RecordingTable, too-long, header-cut}
+use Rattle.promises.specs.Numbers.{past-end, wrong-size, unknown-kind, out-of-turn, end-missing, wrong-count}
+use Rattle.promises.specs.Numbers.{extra, sound, RecordingNumbers, ReaderTable, read-length, read-frame}
+use Rattle.promises.specs.Numbers.{ReaderNumbers, ReadResults, c-read-length, c-read-frame, ReadResultNumbers}
+use Rattle.promises.specs.Numbers.{WriteResults, c-write-length, c-write-index, c-write-fall, c-write-expansion}
+use Rattle.promises.specs.Numbers.{c-write-frame, WriteResultNumbers}
+use Rattle.promises.proofs.Refused.{writer-refuses, hearing-refuses, hertz-refuses, meaning-refuses}
+use Rattle.promises.proofs.Refused.{delays-refuse, code-refuses}
+use Rattle.promises.proofs.Boundary.{read-result-is, result-is}
 use Rattle.promises.proofs.Rule.{refused-exactly, sound-exactly, walked-judged}
 
 -- a row at a number and what is told, from the row at those of the answer
@@ -63,6 +76,32 @@ at-row row {m} {k} {u} {t} p (e, f) = subst (row k) f (subst (λ (x : ℕ). row 
 -- the number and what is told, from the answer
 told : {A : Type 0} (number : A → ℕ) (tells : A → List ℕ) {x a : A} → x ≡ a → (number x ≡ number a) × (tells x ≡ tells a)
 told number tells e = (ap number e, ap tells e)
+
+-- the reader: refused where the bytes are not eighteen, and nowhere else
+module _ (s : List ℕ) where
+  -- eighteen bytes are read
+  verdict-is : length s ≡ 18 → readingOf s .verdict ≡ Verdict.Read
+  verdict-is e = ap (λ (x : Reading). x .verdict) (read-eighteen s e)
+
+  -- others are not
+  verdict-not : (length s ≡ 18 → ⊥) → readingOf s .verdict ≡ Verdict.WrongLength
+  verdict-not w = ap (λ (x : Reading). x .verdict) (sym (read-refused s w))
+
+  -- each row's condition gives its number
+  reader-at : {k : ℕ} {t : List ℕ} → ReaderTable s k t
+      → (frame.readRefusal (readingOf s .verdict) ≡ k) × (frame.readTells (readingOf s .verdict) ≡ t)
+  reader-at (read-length w) = told frame.readRefusal frame.readTells (verdict-not w)
+  reader-at (read-frame e) = told frame.readRefusal frame.readTells (verdict-is e)
+
+  -- each number has a row
+  reader-row : Dec (length s ≡ 18)
+      → ReaderTable s (frame.readRefusal (readingOf s .verdict)) (frame.readTells (readingOf s .verdict))
+  reader-row (yes e) = rw (verdict-is e) (read-frame e)
+  reader-row (no w) = rw (verdict-not w) (read-length w)
+
+pub reader-numbers : ReaderNumbers
+unfolding ReaderNumbers
+reader-numbers s k t = (at-row (ReaderTable s) (reader-row s (ℕ-discrete (length s) 18)), reader-at s)
 
 module _ (r : Record) (n : ℕ) where
   writer-row : (a : Written) → WriterGives r n a → WriterTable r n (frame.refusalOf a) (frame.tellsOf a)
@@ -278,3 +317,89 @@ recording-numbers s k t = (
     λ w. (sym (same-refusal s .0) ∙ recording-at s w .0, sym (same-refusal s .1) ∙ recording-at s w .1),
   ),
 )
+
+-- the reader at the C boundary, by the two lengths
+module _ (s o : List ℕ) where
+  -- both right: the mark and the number
+  c-read-is : length s ≡ 18 → length o ≡ 56
+      → readResult s (length o) ≡ pos (16 * readingOf s .mark + correctionNumber (readingOf s))
+  c-read-is e l = read-result-is s o (verdict-is s e) l
+
+  -- one wrong: -1
+  c-read-not : ((length s ≡ 18) × (length o ≡ 56) → ⊥) → readResult s (length o) ≡ negℤ (pos 1)
+  unfolding readResult
+  c-read-not w = go (ℕ-discrete (length o) 56) (ℕ-discrete (length s) 18)
+    where
+      go : Dec (length o ≡ 56) → Dec (length s ≡ 18) → readResult s (length o) ≡ negℤ (pos 1)
+      go (yes l) (yes e) = absurd (w (e, l))
+      go (yes l) (no v) = rw (eq-eqb (length o) 56 l, verdict-not s v)
+      go (no v) e = rw (ne-eqb (length o) 56 v)
+
+  -- each row's condition gives its result
+  c-read-at : {z : ℤ} → ReadResults s o z → readResult s (length o) ≡ z
+  c-read-at (c-read-length w) = c-read-not w
+  c-read-at (c-read-frame e l) = c-read-is e l
+
+  -- each result has a row
+  c-read-row : Dec (length s ≡ 18) → Dec (length o ≡ 56) → ReadResults s o (readResult s (length o))
+  c-read-row (yes e) (yes l) = rw (c-read-is e l) (c-read-frame e l)
+  c-read-row (yes e) (no v) =
+      let w : (length s ≡ 18) × (length o ≡ 56) → ⊥ = λ p. v (p .1) in rw (c-read-not w) (c-read-length w)
+  c-read-row (no v) l =
+      let w : (length s ≡ 18) × (length o ≡ 56) → ⊥ = λ p. v (p .0) in rw (c-read-not w) (c-read-length w)
+
+pub read-result-numbers : ReadResultNumbers
+unfolding ReadResultNumbers
+read-result-numbers s o z =
+    (λ e. subst (ReadResults s o) e (c-read-row s o (ℕ-discrete (length s) 18) (ℕ-discrete (length o) 56)), c-read-at s o)
+
+-- the writer at the C boundary: the record's length, then as the writer answers
+module _ (s o : List ℕ) where
+  -- what the writer answers of the record in the bytes
+  abbrev asked : Written
+  asked = writtenOf (recordIn s) (length o)
+
+  -- the result of an answer that is given
+  c-write-is : (a : Written) → length s ≡ 56 → WriterGives (recordIn s) (length o) a
+      → writeResult s (length o) ≡ refused (frame.refusalOf a)
+  c-write-is a l g =
+      result-is s o l ∙ ap (λ (x : Written). refused (frame.refusalOf x)) (writer-is (recordIn s) (length o) a g)
+
+  -- the record's length wrong: -1
+  c-write-not : (length s ≡ 56 → ⊥) → writeResult s (length o) ≡ negℤ (pos 1)
+  unfolding writeResult
+  c-write-not w = rw (ne-eqb (length s) 56 w)
+
+  -- one of the lengths wrong: -1
+  c-write-short : ((length s ≡ 56) × (length o ≡ 18) → ⊥) → Dec (length s ≡ 56)
+      → writeResult s (length o) ≡ negℤ (pos 1)
+  c-write-short w (yes l) = c-write-is Written.WrongLength l (λ e. w (l, e))
+  c-write-short w (no v) = c-write-not v
+
+  -- each row's condition gives its result
+  c-write-at : {z : ℤ} → WriteResults s o z → writeResult s (length o) ≡ z
+  c-write-at (c-write-length w) = c-write-short w (ℕ-discrete (length s) 56)
+  c-write-at (c-write-index f l e g) = c-write-is (Written.TooLarge f) l (e, g)
+  c-write-at (c-write-fall m l e fit g) = c-write-is (Written.Falling m) l (e, fit, g)
+  c-write-at (c-write-expansion l e fit order sp) = c-write-is Written.Expansion l (e, fit, order, sp)
+  c-write-at (c-write-frame l e fit order sp) = c-write-is Written.Frame l (e, fit, order, sp)
+
+  -- each answer has a row
+  c-given : (a : Written) → length s ≡ 56 → WriterGives (recordIn s) (length o) a
+      → WriteResults s o (refused (frame.refusalOf a))
+  c-given Written.WrongLength l w = c-write-length (λ p. w (p .1))
+  c-given (Written.TooLarge f) l (e, g) = c-write-index f l e g
+  c-given (Written.Falling m) l (e, fit, g) = c-write-fall m l e fit g
+  c-given Written.Expansion l (e, fit, order, sp) = c-write-expansion l e fit order sp
+  c-given Written.Frame l (e, fit, order, sp) = c-write-frame l e fit order sp
+
+  -- each result has a row
+  c-write-row : Dec (length s ≡ 56) → WriteResults s o (writeResult s (length o))
+  unfolding WriterRefuses
+  c-write-row (yes l) = rw (result-is s o l) (c-given asked l (writer-refuses (recordIn s) (length o) asked .0 refl))
+  c-write-row (no v) = rw (c-write-not v) (c-write-length (λ p. v (p .0)))
+
+pub write-result-numbers : WriteResultNumbers
+unfolding WriteResultNumbers
+write-result-numbers s o z =
+    (λ e. subst (WriteResults s o) e (c-write-row s o (ℕ-discrete (length s) 56)), c-write-at s o)

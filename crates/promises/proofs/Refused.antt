@@ -10,6 +10,7 @@ use borrow.Author.Tests.{eq-eqb, ne-eqb, le-leb, lt-leb, lt-ltb, ltb-true, ltb-f
 use lib.Dec.{eqb}
 use lib.IntN.{ℤ, pos}
 use lib.ListN.{length}
+use Rattle.laws.specs.Unless.{unless}
 use Rattle.record.specs.Fields.{tooLarge}
 use Rattle.record.specs.declared.Record.{Record}
 use Rattle.record.proofs.Laws.{none-too-large, all-fit-none-too-large, lowest-too-large, too-large-at}
@@ -33,7 +34,7 @@ use Rattle.codebook.specs.Code as code
 use Rattle.codebook.specs.declared.Written as code-written
 use Rattle.codebook.specs.declared.Written.the-variants as Code
 use Rattle.frame.specs.Frame.{frameOf}
-use Rattle.frame.specs.Answers.{recordMark, readingOf, readRefusal, writtenOf, leftBy, frameLeft, refusalOf}
+use Rattle.frame.specs.Answers.{recordMark, readingOf, correctionNumber, readRefusal, writtenOf, leftBy, frameLeft, refusalOf}
 use Rattle.frame.specs.declared.Reading.{Reading}
 use Rattle.frame.specs.declared.Verdict.{Verdict}
 use Rattle.frame.specs.declared.Verdict.the-variants as Verdict
@@ -487,10 +488,10 @@ unfolding RefusedReadStays readResult recordLeft
 refused-read-stays s o = sized (eqb (length o) 56)
   where
     told : (a : Reading) (v : Verdict) → a .verdict ≡ v → ((n : ℕ) → readAnswer a ≡ pos n → ⊥) → readInto a o ≡ o
-    told a Verdict.Read e w = absurd (w (16 * a .mark + a .number) (rw e))
+    told a Verdict.Read e w = absurd (w (16 * a .mark + correctionNumber a) (rw e))
     told a Verdict.WrongLength e w = rw e
 
-    sized : (t : Bool) → ((n : ℕ) → cond t (readAnswer (readingOf s)) (refused 1) ≡ pos n → ⊥) → cond t (readInto (readingOf s) o) o ≡ o
+    sized : (t : Bool) → ((n : ℕ) → unless t (refused 1) (readAnswer (readingOf s)) ≡ pos n → ⊥) → unless t o (readInto (readingOf s) o) ≡ o
     sized true w = told (readingOf s) (readingOf s .verdict) refl w
     sized false w = refl
 
@@ -498,7 +499,7 @@ pub refused-write-stays : RefusedWriteStays
 unfolding RefusedWriteStays writeResult frameLeftBy frameLeft
 refused-write-stays s o = sized (eqb (length s) 56)
   where
-    sized : (t : Bool) → ((n : ℕ) → refused (cond t (refusalOf (writtenOf (recordIn s) (length o))) 1) ≡ pos n → ⊥)
-        → cond t (leftBy (writtenOf (recordIn s) (length o)) (frameOf (recordIn s)) o) o ≡ o
+    sized : (t : Bool) → ((n : ℕ) → refused (unless t 1 (refusalOf (writtenOf (recordIn s) (length o)))) ≡ pos n → ⊥)
+        → unless t o (leftBy (writtenOf (recordIn s) (length o)) (frameOf (recordIn s)) o) ≡ o
     sized true w = refused-left (writtenOf (recordIn s) (length o)) (frameOf (recordIn s)) o (λ e. w 0 (ap refused e))
     sized false w = refl

@@ -14,27 +14,32 @@ use Rattle.lsp.specs.Table.{hzTable, hertzOf}
 use Rattle.lsp.specs.Order.{markOf}
 use Rattle.laws.specs.Lowest.{lowestFrom}
 use Rattle.laws.specs.Tabulate.{tabulateFrom}
-use Rattle.laws.specs.Total.{total, fromBits}
-use Rattle.record.specs.Fields.{widthOf}
+use Rattle.laws.specs.Total.{total, bit, fromBits}
+use Rattle.record.specs.Fields.{indexOf, widthOf}
 use Rattle.frame.specs.Places.{places, seek, fieldAt, bitIn, bitsIn, placeOf, fieldOf, bitOf}
 use Rattle.frame.specs.Parity.{guardedName, guardedPlace, number, mended}
-use Rattle.frame.specs.Frame.{bitAt, packed, indexIn}
-use Rattle.frame.specs.Answers.{readingOf, recordMark}
+use Rattle.frame.specs.Frame.{placeAt, bitAt, packed, indexIn}
+use Rattle.frame.specs.Answers.{readingOf, correctionNumber, recordMark}
 use Rattle.frame.proofs.Fields.{place-first, field-of-place, bit-of-place}
 use Rattle.frame.proofs.Gathered.{bitAt-small}
-use Rattle.frame.proofs.Mended.{guarded-field-small, guarded-bit-small, guarded-place, field-of-guarded, mended-same, mended-there}
-use Rattle.frame.proofs.Laws.{bits-width, packed-byte, length-packed, number-none, number-third, number-below, nowhere}
-use Rattle.promises.specs.Frames.{Eighteen, flipped, readBit, Unflipped}
+use Rattle.frame.proofs.Mended.{guarded-field-small, guarded-bit-small, guarded-place, field-of-guarded, mended-same}
+use Rattle.frame.proofs.Mended.{mended-there}
+use Rattle.frame.proofs.Laws.{bits-width, packed-byte, length-packed, number-none, number-below, nowhere}
+use Rattle.promises.specs.Frames.{Eighteen, flipped, NoneGuarded}
 use Rattle.promises.specs.Worked.{only, isIn}
-use Rattle.promises.specs.Repairs.{AsItCame, CleanChangesNothing, ParityNumber, one, two, four, eight, ParityHitChangesNothing, DataHitInvertsOne, TwoNeverMended, UnguardedUnseen, ThreeUnseen}
-use Rattle.promises.proofs.Frames.{read-number, read-bit, flips-bit, flips-number}
+use Rattle.promises.specs.Repairs.{FifteenPlaces, readBit, AsItCame, CleanChangesNothing, ParityNumber, one, two}
+use Rattle.promises.specs.Repairs.{four, eight, ParityHitChangesNothing, DataHitInvertsOne, TwoNeverMended}
+use Rattle.promises.specs.Repairs.{UnguardedUnseen, ThreeUnseen}
+use Rattle.promises.proofs.Frames.{read-number, read-bit, flips-bit, flips-number, two-third}
 
 -- a bit at another place than the number's is read as it came
 module _ (s : List ℕ) (full : Eighteen s) (f i : ℕ) (a : 1 ≤ f) (l : f ≤ 28) (w : i < widthOf f) where
+  -- the bit is one of the field's
   wide : i < bitsIn f
   wide = rw (bits-width f a) w
 
-  as-it-came : (placeOf f i ≡ guardedPlace (readingOf s .number) → ⊥) → AsItCame s f i
+  -- any place but that of the number
+  as-it-came : (placeOf f i ≡ guardedPlace (correctionNumber (readingOf s)) → ⊥) → AsItCame s f i
   as-it-came apart =
       read-bit s (full .long) f i a l w
       ∙ mended-same (bitAt s) (placeOf f i) (λ e. apart (e ∙ ap guardedPlace (sym (read-number s (full .long)))))
@@ -45,8 +50,10 @@ module _ (s : List ℕ) (full : Eighteen s) (f i : ℕ) (a : 1 ≤ f) (l : f ≤
 
   -- no field has a place of number 0, nor one of a parity bit
   off-zero : placeOf f i ≡ guardedPlace 0 → ⊥
-  off-zero e = let p = place-first f i (omega arith) wide in let z : placeOf f i ≡ 0 = e ∙ nowhere in omega (arith, p, z)
+  off-zero e =
+      let p = place-first f i (omega arith) wide in let z : placeOf f i ≡ 0 = e ∙ nowhere in omega (arith, p, z)
 
+  -- nor has a field the place of a parity bit
   off-parity : (n : ℕ) → ParityNumber n → placeOf f i ≡ guardedPlace n → ⊥
   off-parity n p e =
       let z : f ≡ 0 = sym of-field ∙ ap fieldAt e ∙ none n p in
@@ -66,16 +73,20 @@ clean-changes-nothing s full z f i a l w =
 pub parity-hit-changes-nothing : ParityHitChangesNothing
 unfolding ParityHitChangesNothing
 parity-hit-changes-nothing s full p f i a l w =
-    as-it-came s full f i a l w (off-parity s full f i a l w (readingOf s .number) p)
+    as-it-came s full f i a l w (off-parity s full f i a l w (correctionNumber (readingOf s)) p)
 
 -- a number of 1 to 15 whose guarded bit is in no field is one of the four
 parity-rule : ℕ → Bool
-parity-rule n = cond (eqb (fieldOf (guardedName n)) 0) (cond (eqb n 0) true (cond (eqb n 1) true (cond (eqb n 2) true (cond (eqb n 4) true (eqb n 8))))) true
+parity-rule n =
+    cond (eqb (fieldOf (guardedName n)) 0)
+    (cond (eqb n 0) true (cond (eqb n 1) true (cond (eqb n 2) true (cond (eqb n 4) true (eqb n 8))))) true
 
+-- it passes at all sixteen
 parity-rule-holds : T (allBelow 16 parity-rule)
 unfolding parity-rule
 parity-rule-holds = tt
 
+-- so any other number is that of a field's bit
 data-number : (n : ℕ) → n < 16 → (n ≡ 0 → ⊥) → (ParityNumber n → ⊥) → 1 ≤ fieldOf (guardedName n)
 unfolding parity-rule
 data-number n h z p = go (ℕ-discrete (fieldOf (guardedName n)) 0)
@@ -106,8 +117,11 @@ data-hit-inverts-one s full n is z p = record {
   bit-within = within;
   there =
       read-bit s (full .long) F K first last within
-      ∙ mended-there (bitAt s) (placeOf F K) (sym (guarded-place n from upto) ∙ ap guardedPlace (sym is ∙ read-number s (full .long)));
-  elsewhere = λ g j a l w other. as-it-came s full g j a l w (λ e. other (same g j a l w (e ∙ ap guardedPlace is ∙ guarded-place n from upto)));
+      ∙ mended-there (bitAt s) (placeOf F K)
+      (sym (guarded-place n from upto) ∙ ap guardedPlace (sym is ∙ read-number s (full .long)));
+  elsewhere =
+      λ g j a l w other. as-it-came s full g j a l w (λ e. other (same g j a l w (e ∙ ap guardedPlace is
+      ∙ guarded-place n from upto)));
 }
   where
     F : ℕ
@@ -145,42 +159,45 @@ data-hit-inverts-one s full n is z p = record {
 
 pub two-never-mended : TwoNeverMended
 unfolding TwoNeverMended
-two-never-mended w e made full m n a l b k apart here there rest =
-    (λ z. third .0 (same ∙ z), λ z. third .1 (same ∙ z))
+two-never-mended r w e made full m n both =
+    (λ z. two-third e m n both .0 (same ∙ z), λ z. two-third e m n both .1 (same ∙ z))
   where
-    third : (number (bitAt e) ≡ m → ⊥) × (number (bitAt e) ≡ n → ⊥)
-    third = number-third (bitAt e) m n a l b k apart here there rest
-
-    same : number (bitAt e) ≡ readingOf (flipped w e) .number
-    same = sym (read-number e (full .long)) ∙ sym (flips-number w made e full)
+    same : number (bitAt e) ≡ correctionNumber (readingOf (flipped w e))
+    same = sym (read-number e (full .long)) ∙ sym (flips-number r w made e full)
 
 -- flips that spare the guarded places have number 0
-module _ (e : List ℕ) (full : Eighteen e) (spared : (n : ℕ) → 1 ≤ n → n ≤ 15 → Unflipped e n) where
-  none-flipped : readingOf e .number ≡ 0
+module _ (e : List ℕ) (full : Eighteen e) (spared : NoneGuarded e) where
+  none-flipped : correctionNumber (readingOf e) ≡ 0
   none-flipped =
       read-number e (full .long)
-      ∙ number-none (bitAt e) (bitAt-small e) 1 (omega arith) (omega arith) (λ n a l w. spared n a l) (spared 1 (omega arith) (omega arith))
+      ∙ number-none (bitAt e) (bitAt-small e) 1 (omega arith) (omega arith)
+      (λ n a l w. spared n (record { from = a; upto = l }))
+      (spared 1 (record { from = omega arith; upto = omega arith }))
 
 pub unguarded-unseen : UnguardedUnseen
 unfolding UnguardedUnseen CleanChangesNothing
-unguarded-unseen w e made full spared = (
-  flips-number w made e full ∙ none-flipped e full spared,
-  λ f i a l h. flips-bit w made e full f i a l h
-      ∙ ap (λ (x : ℕ). (readBit w f i + x) % 2) (clean-changes-nothing e full (none-flipped e full spared) f i a l h),
+unguarded-unseen r w e made full spared = (
+  flips-number r w made e full ∙ none-flipped e full spared,
+  λ f i a l h. flips-bit r w made e full f i a l h
+      ∙ ap (λ (x : ℕ). (bit (indexOf r f) i + x) % 2)
+      (clean-changes-nothing e full (none-flipped e full spared) f i a l h),
 )
 
 -- three flips whose numbers cancel
 three : List ℕ
 three = only (21 ∷ 51 ∷ 11 ∷ [])
 
-three-number : readingOf three .number ≡ 0
-unfolding three lowestFrom tabulateFrom total fromBits places seek guardedPlace number mended bitAt packed indexIn readingOf recordMark hzTable hertzOf markOf
+-- their number is 0
+three-number : correctionNumber (readingOf three) ≡ 0
+unfolding three lowestFrom tabulateFrom total fromBits places seek guardedPlace number mended placeAt bitAt packed indexIn readingOf recordMark hzTable hertzOf markOf
 three-number = refl
 
+-- and PD(1)-5 is read as 1
 three-bit : readBit three 11 5 ≡ 1
-unfolding three lowestFrom tabulateFrom total fromBits places seek guardedPlace number mended bitAt packed indexIn readingOf recordMark hzTable hertzOf markOf
+unfolding three lowestFrom tabulateFrom total fromBits places seek guardedPlace number mended placeAt bitAt packed indexIn readingOf recordMark hzTable hertzOf markOf
 three-bit = refl
 
+-- a place is in a list or not
 is-bit : (p : ℕ) (l : List ℕ) → isIn p l < 2
 is-bit p [] = omega arith
 is-bit p (q ∷ qs) = go (eqb p q) (is-bit p qs)
@@ -189,6 +206,7 @@ is-bit p (q ∷ qs) = go (eqb p q) (is-bit p qs)
     go true rest = omega arith
     go false rest = rest
 
+-- they are eighteen bytes
 three-eighteen : Eighteen three
 unfolding three
 three-eighteen = record { long = length-packed set; bytes = packed-byte set (λ p. is-bit p (21 ∷ 51 ∷ 11 ∷ [])) }
@@ -198,7 +216,12 @@ three-eighteen = record { long = length-packed set; bytes = packed-byte set (λ 
 
 pub three-unseen : ThreeUnseen
 unfolding ThreeUnseen three
-three-unseen w made = (
-  flips-number w made three three-eighteen ∙ three-number,
-  flips-bit w made three three-eighteen 11 5 (omega arith) (omega arith) (omega arith) ∙ ap (λ (x : ℕ). (readBit w 11 5 + x) % 2) three-bit,
+three-unseen r w made = (
+  flips-number r w made three three-eighteen ∙ three-number,
+  flips-bit r w made three three-eighteen 11 5 (omega arith) (omega arith) (omega arith)
+      ∙ ap (λ (x : ℕ). (bit (indexOf r 11) 5 + x) % 2) three-bit,
 )
+
+pub fifteen-places : FifteenPlaces
+unfolding FifteenPlaces tabulateFrom guardedPlace seek places
+fifteen-places = refl

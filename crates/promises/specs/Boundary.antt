@@ -1,5 +1,6 @@
--- The C boundary (document 01, "What the work covers"): "the record as 28 byte pairs (16 bits, little-endian, in field order). The
--- reader's C result is 16 times the order mark plus the correction number, the writer's is 0; a refusal is minus its number."
+-- The C boundary (document 01, "What the work covers"): "the record as 28 byte pairs (16 bits, little-endian, in
+-- field order). The reader's C result is 16 times the order mark plus the correction number, the writer's is 0; a
+-- refusal is minus its number."
 use mathlib.Core.Path.{_≡_}
 use mathlib.Core.List.{List}
 use Prim.Native.Nat.{ℕ, _/_, _%_, _<_}
@@ -7,7 +8,7 @@ use lib.IntN.{pos, negℤ}
 use lib.ListN.{length, getD}
 use Rattle.record.specs.declared.Record.{Record}
 use Rattle.frame.specs.Frame.{frameOf}
-use Rattle.frame.specs.Answers.{readingOf, writtenOf, refusalOf}
+use Rattle.frame.specs.Answers.{readingOf, correctionNumber, writtenOf, refusalOf}
 use Rattle.gateway.specs.Pairs.{bytesOf, recordIn}
 use Rattle.gateway.specs.Results.{readResult, recordLeft, writeResult, frameLeftBy}
 use Rattle.promises.specs.Frames.{Shaped}
@@ -27,7 +28,7 @@ pub record ReadsInto (s o : List ℕ) : Type 0 where
   pub told : ℕ
   pub result : readResult s (length o) ≡ pos told
   pub mark : told / 16 ≡ readingOf s .mark
-  pub number : told % 16 ≡ readingOf s .number
+  pub number : told % 16 ≡ correctionNumber (readingOf s)
   pub left : recordLeft s o ≡ bytesOf (readingOf s .indices)
 
 unfoldable pub ReadTells : Type 0

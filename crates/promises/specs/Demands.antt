@@ -3,17 +3,19 @@
 use Rattle.listing.specs.Promised.{ListingFits, ListingStands, RefusedListingStays}
 use Rattle.promises.specs.Frames.{ReadsBack, SameBits, DamageAlone, OneMended, TwoReported, EveryFrameRead, OneFrame, SixteenFrames}
 use Rattle.promises.specs.Functions.{WriteThenRead, ReadThenWrite, RepairByDamage, OneFlip, TwoFlips, NoTwoFrames}
-use Rattle.promises.specs.Refused.{ReaderRefuses, WriterRefuses, RefusedFrameStays, RefusedReadStays, RefusedWriteStays}
-use Rattle.promises.specs.Refused.{HearingRefuses, RefusedStateStays, NothingStays, HertzRefuses, MeaningRefuses}
-use Rattle.promises.specs.Refused.{DelaysRefuse, CodeRefuses, RefusedCodeStays}
-use Rattle.promises.specs.Repairs.{CleanChangesNothing, ParityHitChangesNothing, DataHitInvertsOne, TwoNeverMended, UnguardedUnseen, ThreeUnseen}
+use Rattle.promises.specs.Refused.{ReaderRefuses, WriterRefuses, RefusedFrameStays, RefusedReadStays}
+use Rattle.promises.specs.Refused.{RefusedWriteStays, HearingRefuses, RefusedStateStays, NothingStays}
+use Rattle.promises.specs.Refused.{HertzRefuses, MeaningRefuses, DelaysRefuse, CodeRefuses, RefusedCodeStays}
+use Rattle.promises.specs.Repairs.{CleanChangesNothing, ParityHitChangesNothing, DataHitInvertsOne}
+use Rattle.promises.specs.Repairs.{TwoNeverMended, UnguardedUnseen, ThreeUnseen, FifteenPlaces}
 use Rattle.promises.specs.Boundary.{PairsHoldRecord, ReadTells, WriteTells, BoundaryReadsBack}
-use Rattle.promises.specs.Values.{NearestEntry, GainsComeBack, CgMirrored, GainsHeard}
-use Rattle.promises.specs.Values.{DelaysRise, EachByteOnce, DelaysComeBack, FixedWindows, DelaysHeard}
-use Rattle.promises.specs.Values.{LspsHeard, MarkHeard, MarkIsLowest, Averaged, FirstAveraged, FreshNotBegun, StateHolds}
-use Rattle.promises.specs.Values.{Ternary, CodesOverlap, DrawsWrap, DrawsAtPositions}
+use Rattle.promises.specs.Values.{NearestEntry, GainsComeBack, CgMirrored, GainsHeard, DelaysRise, EachByteOnce}
+use Rattle.promises.specs.Values.{DelaysComeBack, FixedWindows, DelaysHeard, LspsHeard, MarkHeard, MarkIsLowest}
+use Rattle.promises.specs.Values.{Averaged, FirstAveraged, FreshNotBegun, StateHolds, Ternary, CodesOverlap}
+use Rattle.promises.specs.Values.{DrawsWrap, DrawsAtPositions}
 use Rattle.promises.specs.Numbers.{WriterNumbers, HearingNumbers, HertzNumbers, MeaningNumbers, DelayNumbers}
-use Rattle.promises.specs.Numbers.{CodeNumbers, GainNumbers, RecordingNumbers}
+use Rattle.promises.specs.Numbers.{CodeNumbers, GainNumbers, RecordingNumbers, ReaderNumbers, ReadResultNumbers}
+use Rattle.promises.specs.Numbers.{WriteResultNumbers}
 use Rattle.promises.specs.Rule.{LowestFirst, RefusedExactly, RefusedKeeps, SoundExactly}
 use Rattle.promises.specs.Made.{MadeIsSound, SoundIsMade, NoTwo}
 use Rattle.promises.specs.Parts.{VoiceBlocksStand, NoSuchBlock, FramesAreAll, FramesAreLong, FramesFit, EndCounts}
@@ -39,6 +41,7 @@ pub record DemandOne : Type 0 where
   pub delays-refuse : DelaysRefuse
   pub code-refuses : CodeRefuses
   -- each by its number, with what it tells
+  pub reader-numbers : ReaderNumbers
   pub writer-numbers : WriterNumbers
   pub hearing-numbers : HearingNumbers
   pub hertz-numbers : HertzNumbers
@@ -47,6 +50,8 @@ pub record DemandOne : Type 0 where
   pub code-numbers : CodeNumbers
   pub gain-numbers : GainNumbers
   pub recording-numbers : RecordingNumbers
+  pub read-result-numbers : ReadResultNumbers
+  pub write-result-numbers : WriteResultNumbers
   -- nothing is written, and the state stays
   pub refused-frame-stays : RefusedFrameStays
   pub refused-state-stays : RefusedStateStays
@@ -75,6 +80,7 @@ pub record DemandTwo : Type 0 where
   pub one-frame : OneFrame
   pub no-two-frames : NoTwoFrames
   pub sixteen-frames : SixteenFrames
+  pub fifteen-places : FifteenPlaces
   -- gains, delays, averaged parameters, ternary codes
   pub nearest-entry : NearestEntry
   pub gains-come-back : GainsComeBack

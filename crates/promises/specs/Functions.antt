@@ -1,19 +1,16 @@
--- The promises about frames said of the two functions themselves: of any answer and any bytes left that the contracts of
--- `frame::write` and `frame::read` allow.
+-- The promises about frames said of the two functions themselves: of any answer and any bytes left that the contracts
+-- of `frame::write` and `frame::read` allow.
 use mathlib.Core.Path.{_≡_}
 use mathlib.Core.List.{List}
 use mathlib.Core.Logic.{_↔_}
-use Prim.Native.Nat.{ℕ, _+_, _%_, _<_, _≤_}
+use Prim.Native.Nat.{ℕ}
 use lib.ListN.{length}
 use contract.Lifetimes.{Lfts}
 use denote.Ref.{now}
 use denote.Triple.Clauses.{AtExit}
 use borrow.Fn.Kinds.{Dens, endedOf}
-use Rattle.laws.specs.Total.{bit}
-use Rattle.record.specs.Fields.{indexOf, widthOf}
 use Rattle.record.specs.declared.Record.{Record}
-use Rattle.frame.specs.Places.{fieldOf, bitOf}
-use Rattle.frame.specs.Parity.{guardedName}
+use Rattle.frame.specs.Answers.{correctionNumber}
 use Rattle.frame.specs.declared.Reading.{Reading}
 use Rattle.frame.specs.declared.Verdict.the-variants as Verdict
 use Rattle.frame.specs.declared.Written.{Written}
@@ -22,7 +19,7 @@ use Rattle.frame.proofs.read.Kinds as read
 use Rattle.frame.proofs.read.Reads as read-reads
 use Rattle.frame.proofs.write.Kinds as write
 use Rattle.frame.proofs.write.Reads as write-reads
-use Rattle.promises.specs.Frames.{Shaped, Eighteen, flipped, Flipped, Unflipped}
+use Rattle.promises.specs.Frames.{Shaped, Eighteen, flipped, OfTheFlips, DataBit, dataBit, AtMostOne, ExactlyTwo}
 
 -- `read`, lent the bytes s, may answer d
 pub record Answers (s : List ℕ) (d : Reading) : Type 0 where
@@ -52,42 +49,38 @@ WriteThenRead =
 unfoldable pub ReadThenWrite : Type 0
 ReadThenWrite =
     (s t u : List ℕ) (d : Reading) (a : Written) → Eighteen s → length t ≡ 18 → Answers s d → Leaves (d .indices) t a u
-    → ((a ≡ Written.Frame) × (u ≡ s)) ↔ ((d .number ≡ 0) × (d .indices .sp ≡ 0) × (d .mark ≡ 0))
+    → ((a ≡ Written.Frame) × (u ≡ s)) ↔ ((correctionNumber d ≡ 0) × (d .indices .sp ≡ 0) × (d .mark ≡ 0))
 
--- a frame that `write` left, the flips e, and what `read` answers on the frame, on the flips alone and on the flipped frame
-pub record Damaged (w e : List ℕ) (clean alone damaged : Reading) : Type 0 where
-  pub written : Record
-  pub shaped : Shaped written
+-- a frame w that `write` left of the record r, the flips e, and what `read` answers on the flips alone and on the
+-- flipped frame
+pub record Damaged (r : Record) (w e : List ℕ) (alone damaged : Reading) : Type 0 where
+  pub shaped : Shaped r
   pub buffer : List ℕ
-  pub leaves : Leaves written buffer Written.Frame w
+  pub leaves : Leaves r buffer Written.Frame w
   pub flips : Eighteen e
-  pub reads-clean : Answers w clean
   pub reads-alone : Answers e alone
   pub reads-damaged : Answers (flipped w e) damaged
 
+-- in each of the 28 fields the index read is the written one, exclusive or that of the flips alone; the number is
+-- that of the flips alone
 unfoldable pub RepairByDamage : Type 0
 RepairByDamage =
-    (w e : List ℕ) (clean alone damaged : Reading) → Damaged w e clean alone damaged
-    → ((f i : ℕ) → 1 ≤ f → f ≤ 28 → i < widthOf f
-    → bit (indexOf (damaged .indices) f) i ≡ (bit (indexOf (clean .indices) f) i + bit (indexOf (alone .indices) f) i) % 2)
-    × (damaged .number ≡ alone .number)
+    (r : Record) (w e : List ℕ) (alone damaged : Reading) → Damaged r w e alone damaged → OfTheFlips r alone damaged
 
+-- with no more than one guarded place flipped, each guarded data bit read is the written one
 unfoldable pub OneFlip : Type 0
 OneFlip =
-    (w e : List ℕ) (clean alone damaged : Reading) → Damaged w e clean alone damaged → (m : ℕ) → 1 ≤ m → m ≤ 15
-    → ((n : ℕ) → 1 ≤ n → n ≤ 15 → (n ≡ m → ⊥) → Unflipped e n)
-    → (n : ℕ) → 1 ≤ n → n ≤ 15 → (fieldOf (guardedName n) ≡ 0 → ⊥)
-    → bit (indexOf (damaged .indices) (fieldOf (guardedName n))) (bitOf (guardedName n))
-    ≡ bit (indexOf (clean .indices) (fieldOf (guardedName n))) (bitOf (guardedName n))
+    (r : Record) (w e : List ℕ) (alone damaged : Reading) → Damaged r w e alone damaged → AtMostOne e
+    → (n : ℕ) → DataBit n → dataBit (damaged .indices) n ≡ dataBit r n
 
+-- with two flipped the number is not 0
 unfoldable pub TwoFlips : Type 0
 TwoFlips =
-    (w e : List ℕ) (clean alone damaged : Reading) → Damaged w e clean alone damaged
-    → (m n : ℕ) → 1 ≤ m → m ≤ 15 → 1 ≤ n → n ≤ 15 → (m ≡ n → ⊥) → Flipped e m → Flipped e n
-    → ((q : ℕ) → 1 ≤ q → q ≤ 15 → (q ≡ m → ⊥) → (q ≡ n → ⊥) → Unflipped e q)
-    → damaged .number ≡ 0 → ⊥
+    (r : Record) (w e : List ℕ) (alone damaged : Reading) → Damaged r w e alone damaged
+    → (m n : ℕ) → ExactlyTwo e m n → correctionNumber damaged ≡ 0 → ⊥
 
+-- two frames of which `read` answers the same record and number are the same bytes
 unfoldable pub NoTwoFrames : Type 0
 NoTwoFrames =
     (s t : List ℕ) (c d : Reading) → Eighteen s → Eighteen t → Answers s c → Answers t d
-    → c .indices ≡ d .indices → c .number ≡ d .number → s ≡ t
+    → c .indices ≡ d .indices → correctionNumber c ≡ correctionNumber d → s ≡ t

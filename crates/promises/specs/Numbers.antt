@@ -5,7 +5,8 @@ use mathlib.Core.Path.{_≡_}
 use mathlib.Core.List.{List, [], _∷_}
 use mathlib.Core.Logic.{_↔_}
 use Prim.Native.Nat.{ℕ, _+_, _-_, _*_, _<_, _≤_}
-use lib.IntN.{ℤ}
+use lib.IntN.{ℤ, pos, negℤ}
+use lib.ListN.{length}
 use Rattle.record.specs.declared.Record.{Record}
 use Rattle.gains.specs.Gains.{gainOf}
 use Rattle.gains.specs.Gains as gain
@@ -14,7 +15,7 @@ use Rattle.delays.specs.Codes as delay
 use Rattle.lsp.specs.Table.{hertzOf}
 use Rattle.lsp.specs.Table as hertz
 use Rattle.codebook.specs.Code as code
-use Rattle.frame.specs.Answers.{writtenOf}
+use Rattle.frame.specs.Answers.{readingOf, correctionNumber, writtenOf}
 use Rattle.frame.specs.Answers as frame
 use Rattle.values.specs.Outcome as hearing
 use Rattle.values.specs.Values.{valuesOf}
@@ -23,9 +24,21 @@ use Rattle.blocks.specs.Walk.{walkedOf}
 use Rattle.blocks.specs.Refusals.{walkedRefusal, walkedTells}
 use Rattle.blocks.specs.declared.Cause.the-variants.{TooLong, HeaderCut, PastEnd, WrongSize, UnknownKind, OutOfTurn, EndMissing, WrongCount, Extra}
 use Rattle.recording.specs.Judged.{judgedOf, judgedRefusal, judgedTells}
+use Rattle.gateway.specs.Pairs.{recordIn}
+use Rattle.gateway.specs.Results.{readResult, writeResult}
 use Rattle.promises.specs.Refused.{AllFit, LowestTooLarge, Ordered, LowestFall, AllWithin, LowestOver}
 use Rattle.promises.specs.Refused.{FirstTooLarge, Means, FirstNotListed, FirstOutside, Sends}
 use Rattle.promises.specs.Rule.{Given, Accepted}
+
+-- a frame to read
+pub data ReaderTable (s : List ℕ) : ℕ → List ℕ → Type 0 where
+  read-length : (length s ≡ 18 → ⊥) → ReaderTable s 1 []
+  read-frame : length s ≡ 18 → ReaderTable s 0 []
+
+unfoldable pub ReaderNumbers : Type 0
+ReaderNumbers =
+    (s : List ℕ) (k : ℕ) (t : List ℕ)
+    → ((frame.readRefusal (readingOf s .verdict) ≡ k) × (frame.readTells (readingOf s .verdict) ≡ t)) ↔ ReaderTable s k t
 
 -- a record to write, into a buffer of n bytes
 pub data WriterTable (r : Record) (n : ℕ) : ℕ → List ℕ → Type 0 where
@@ -123,3 +136,28 @@ RecordingNumbers =
     (s : List ℕ) (k : ℕ) (t : List ℕ)
     → (((judgedRefusal (judgedOf s) ≡ k) × (judgedTells (judgedOf s) ≡ t)) ↔ RecordingTable s k t)
     × (((walkedRefusal (walkedOf s) ≡ k) × (walkedTells (walkedOf s) ≡ t)) ↔ RecordingTable s k t)
+
+-- the C boundary: a result is minus the refusal's number. The reader's, of the bytes of a frame and a buffer for the
+-- record; where both have their length it is 16 times the order mark plus the correction number
+pub data ReadResults (s o : List ℕ) : ℤ → Type 0 where
+  c-read-length : ((length s ≡ 18) × (length o ≡ 56) → ⊥) → ReadResults s o (negℤ (pos 1))
+  c-read-frame : length s ≡ 18 → length o ≡ 56
+      → ReadResults s o (pos (16 * readingOf s .mark + correctionNumber (readingOf s)))
+
+unfoldable pub ReadResultNumbers : Type 0
+ReadResultNumbers = (s o : List ℕ) (z : ℤ) → (readResult s (length o) ≡ z) ↔ ReadResults s o z
+
+-- the writer's, of the bytes of a record and a buffer for the frame
+pub data WriteResults (s o : List ℕ) : ℤ → Type 0 where
+  c-write-length : ((length s ≡ 56) × (length o ≡ 18) → ⊥) → WriteResults s o (negℤ (pos 1))
+  c-write-index : (f : ℕ) → length s ≡ 56 → length o ≡ 18 → LowestTooLarge (recordIn s) f
+      → WriteResults s o (negℤ (pos 2))
+  c-write-fall : (m : ℕ) → length s ≡ 56 → length o ≡ 18 → AllFit (recordIn s) → LowestFall (recordIn s) m
+      → WriteResults s o (negℤ (pos 3))
+  c-write-expansion : length s ≡ 56 → length o ≡ 18 → AllFit (recordIn s) → Ordered (recordIn s) → recordIn s .sp ≡ 1
+      → WriteResults s o (negℤ (pos 6))
+  c-write-frame : length s ≡ 56 → length o ≡ 18 → AllFit (recordIn s) → Ordered (recordIn s) → recordIn s .sp ≡ 0
+      → WriteResults s o (pos 0)
+
+unfoldable pub WriteResultNumbers : Type 0
+WriteResultNumbers = (s o : List ℕ) (z : ℤ) → (writeResult s (length o) ≡ z) ↔ WriteResults s o z

@@ -6,12 +6,14 @@ use native.Mathlib.Omega.{arith}
 use lib.ListN.{length, getD}
 use Rattle.frame.specs.Frame.{sent}
 use Rattle.frame.proofs.Places.{length-entries}
-use Rattle.frame.proofs.Packed.{Shifted, shifted-none, shifted-more, shifted-byte, shifted-room, byte-shifted, sent-next, sent-field, sent-small}
+use Rattle.frame.proofs.Packed.{Shifted, shifted-none, shifted-more, shifted-byte, shifted-room, byte-shifted}
+use Rattle.frame.proofs.Packed.{sent-next, sent-field, sent-small}
 use Rattle.frame.proofs.byte_at.Statement.{statement}
 use Rattle.frame.proofs.byte_at.Tie as tie
 
 abbrev Inv-loop : tie.InvT-loop
-Inv-loop fields table k from x₀ q₀ x q = Shifted (sent (λ f. getD fields f 0)) (sent-small (λ f. getD fields f 0)) (8 * k) q x
+Inv-loop fields table k from x₀ q₀ x q =
+    Shifted (sent (λ f. getD fields f 0)) (sent-small (λ f. getD fields f 0)) (8 * k) q x
 
 abbrev μ-loop : tie.MeasureT-loop
 μ-loop fields table k from x₀ q₀ x q = 8 - q
@@ -25,12 +27,15 @@ shared-slice-read-entry c =
     omega (arith, e, c .before .before .before .pre .1 .1)
 
 -- the next place is one of the 144, and its entry names one of the 29
-within : (c : tie.After-shared-slice-known Inv-loop μ-loop) → 8 * c .before .before .before .args .k + c .before .before .loop .q < 144
+within : (c : tie.After-shared-slice-known Inv-loop μ-loop)
+    → 8 * c .before .before .before .args .k + c .before .before .loop .q < 144
 within c = omega (arith, c .before .before .before .pre .1 .1)
 
 named : (c : tie.After-shared-slice-known Inv-loop μ-loop)
-    → getD (c .before .before .before .args .table .now) (8 * c .before .before .before .args .k + c .before .before .loop .q) 0 / 16 < 29
-named c = sent-field (c .before .before .before .args .fields .now) _ (c .before .before .before .pre .1 .0) _ (within c)
+    → getD (c .before .before .before .args .table .now)
+    (8 * c .before .before .before .args .k + c .before .before .loop .q) 0 / 16 < 29
+named c =
+    sent-field (c .before .before .before .args .fields .now) _ (c .before .before .before .pre .1 .0) _ (within c)
 
 cast-f : tie.Need-cast-f Inv-loop μ-loop
 cast-f c = omega (arith, named c)
@@ -49,7 +54,8 @@ add-x c = omega (arith, shifted-room _ _ _ (c .before .before .before .loop .inv
 
 loop-again : tie.Need-loop-again Inv-loop μ-loop
 loop-again c =
-    rw (sent-next (c .before .before .before .before .args .fields .now) _ (c .before .before .before .before .pre .1 .0) _ (within (c .before)))
+    rw (sent-next (c .before .before .before .before .args .fields .now) _
+    (c .before .before .before .before .pre .1 .0) _ (within (c .before)))
     (shifted-more _ _ _ (c .before .before .before .loop .inv) (c .before .before .loop-test .taken))
 
 cast-result : tie.Need-cast-result Inv-loop μ-loop
@@ -61,6 +67,8 @@ returns c = byte-shifted _ _ _ (c .before .before .pre .1 .1) (c .before .loop .
 pub byte-at-spec : {M : Type 1} → statement M
 byte-at-spec =
     tie.close
-    (tie.spec Inv-loop μ-loop (λ c. omega (arith, c .pre .1 .1)) loop-holds (λ c. omega (arith, c .before .before .pre .1 .1)) (λ c. omega arith)
-    shared-slice-read-entry cast-f mul-x mul-x-2 shared-slice-read-x (λ c. omega arith) add-x (λ c. omega arith) (λ c. omega arith) loop-again
+    (tie.spec Inv-loop μ-loop (λ c. omega (arith, c .pre .1 .1)) loop-holds
+    (λ c. omega (arith, c .before .before .pre .1 .1)) (λ c. omega arith)
+    shared-slice-read-entry cast-f mul-x mul-x-2 shared-slice-read-x (λ c. omega arith) add-x (λ c. omega arith)
+    (λ c. omega arith) loop-again
     cast-result returns)

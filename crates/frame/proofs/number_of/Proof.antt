@@ -1,8 +1,10 @@
--- `frame::number_of` meets its contract. The loop's invariant: the exclusive or of the numbers of the guarded bits passed that are 1.
+-- `frame::number_of` meets its contract. The loop's invariant: the exclusive or of the numbers of the guarded bits
+-- passed that are 1.
 -- Assumes nothing.
-use Prim.Native.Nat.{_-_, _+_, _*_, _<_}
+use Prim.Native.Nat.{_-_}
 use native.Mathlib.Omega.{arith}
-use Rattle.frame.proofs.Number.{Summed, summed-none, summed-more, summed-all, taken-room, next-guarded, next-field}
+use Rattle.frame.proofs.Number.{Summed, summed-none, summed-more, summed-all, taken-room, next-guarded}
+use Rattle.frame.proofs.Number.{next-field}
 use Rattle.frame.proofs.number_of.Statement.{statement}
 use Rattle.frame.proofs.number_of.Tie as tie
 
@@ -38,5 +40,6 @@ returns c = summed-all _ (c .before .loop .inv) (c .loop-test .left)
 pub number-of-spec : {M : Type 1} → statement M
 number-of-spec =
     tie.close
-    (tie.spec Inv-loop μ-loop (λ c κs. tt) loop-holds (λ c. omega arith) (λ c. omega arith) cast-f mul-x array-read-x (λ c. omega arith)
+    (tie.spec Inv-loop μ-loop (λ c κs. tt) loop-holds (λ c. omega arith) (λ c. omega arith) cast-f mul-x
+    array-read-x (λ c. omega arith)
     (λ c. omega arith) (λ c. omega arith) mul-number (λ c. omega arith) loop-again returns)

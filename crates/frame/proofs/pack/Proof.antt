@@ -1,6 +1,5 @@
 -- `frame::pack` meets its contract. The loop's invariant: the bytes passed hold their eight bits.
 -- Assumes nothing.
-use mathlib.Core.Path.{sym, _∙_}
 use Prim.Native.Nat.{_-_}
 use native.Mathlib.Omega.{arith}
 use borrow.Author.Needs.{needs}
@@ -28,7 +27,8 @@ slice-write-frame c = omega (arith, c .before .before .before .before .loop .inv
 
 loop-again : tie.Need-loop-again Inv-loop μ-loop
 loop-again c =
-    filled-more 0 _ 18 _ _ _ (c .before .before .before .before .loop .inv) (c .before .before .before .loop-test .taken) (c .byte-at .ensures)
+    filled-more 0 _ 18 _ _ _ (c .before .before .before .before .loop .inv)
+    (c .before .before .before .loop-test .taken) (c .byte-at .ensures)
 
 returns : tie.Need-returns Inv-loop μ-loop
 unfolding packed
@@ -37,5 +37,6 @@ returns c = filled-done 0 _ 18 _ (c .loop-test .left) (c .before .loop .inv)
 pub pack-spec : {M : Type 1} → statement M
 pack-spec =
     tie.close
-    (tie.spec Inv-loop μ-loop (λ c κs. tt) loop-holds (search needs) (search needs) byte-at-requires slice-write-frame (λ c. omega arith)
+    (tie.spec Inv-loop μ-loop (λ c κs. tt) loop-holds (search needs) (search needs) byte-at-requires
+    slice-write-frame (λ c. omega arith)
     (λ c. omega arith) loop-again (search needs) returns)

@@ -1,147 +1,59 @@
-use mathlib.Core.Path.{refl}
-use Rattle.laws.specs.Tabulate.{tabulateFrom}
-use Rattle.frame.specs.Steps.{fieldsOf}
-use borrow.Author.Needs.{needs}
+-- `frame::to_fields` meets its contract. The loops' invariants: the fields passed hold their indices.
+-- Assumes nothing.
+use Prim.Native.Nat.{_+_, _-_}
+use native.Mathlib.Omega.{arith}
+use Rattle.frame.proofs.Listed.{Laid, laid-none, laid-lsp, laid-parameters, laid-subframe, laid-whole}
 use Rattle.frame.proofs.to_fields.Statement.{statement}
 use Rattle.frame.proofs.to_fields.Tie as tie
 
--- src/lib.rt:276:12
-array-read-t6 : tie.Need-array-read-t6
-array-read-t6 c = search needs
+abbrev Inv-loop : tie.InvT-loop
+Inv-loop r fields₀ lsp k₀ fields k = Laid r (k + 1) fields
 
--- src/lib.rt:276:18
-array-read-t9 : tie.Need-array-read-t9
-array-read-t9 c = search needs
+abbrev μ-loop : tie.MeasureT-loop
+μ-loop r fields₀ lsp k₀ fields k = 10 - k
 
--- src/lib.rt:276:24
-array-read-t12 : tie.Need-array-read-t12
-array-read-t12 c = search needs
+abbrev Inv-loop2 : tie.InvT-loop2
+Inv-loop2 r fields₀ k subframes n₀ fields n = Laid r (n + 11) fields
 
--- src/lib.rt:276:30
-array-read-t15 : tie.Need-array-read-t15
-array-read-t15 c = search needs
+abbrev μ-loop2 : tie.MeasureT-loop2
+μ-loop2 r fields₀ k subframes n₀ fields n = 16 - n
 
--- src/lib.rt:276:36
-array-read-t18 : tie.Need-array-read-t18
-array-read-t18 c = search needs
+loop-holds : tie.Need-loop-holds Inv-loop μ-loop Inv-loop2 μ-loop2
+loop-holds c = laid-none (c .before .args .r)
 
--- src/lib.rt:276:42
-array-read-t21 : tie.Need-array-read-t21
-array-read-t21 c = search needs
+array-write-fields : tie.Need-array-write-fields Inv-loop μ-loop Inv-loop2 μ-loop2
+array-write-fields c = omega (arith, c .before .loop .inv .long)
 
--- src/lib.rt:276:48
-array-read-t24 : tie.Need-array-read-t24
-array-read-t24 c = search needs
+loop-again : tie.Need-loop-again Inv-loop μ-loop Inv-loop2 μ-loop2
+loop-again c = laid-lsp (c .before .before .before .args .r) (c .before .loop .inv) (c .loop-test .taken)
 
--- src/lib.rt:276:54
-array-read-t27 : tie.Need-array-read-t27
-array-read-t27 c = search needs
+loop2-holds : tie.Need-loop2-holds Inv-loop μ-loop Inv-loop2 μ-loop2
+loop2-holds c =
+    laid-parameters (c .before .before .before .before .args .r) (c .before .before .loop .inv)
+    (c .before .loop-test .left)
 
--- src/lib.rt:276:60
-array-read-t30 : tie.Need-array-read-t30
-array-read-t30 c = search needs
+array-write-fields-2 : tie.Need-array-write-fields-2 Inv-loop μ-loop Inv-loop2 μ-loop2
+array-write-fields-2 c = omega (arith, c .before .loop2 .inv .long)
 
--- src/lib.rt:276:66
-array-read-t33 : tie.Need-array-read-t33
-array-read-t33 c = search needs
+loop2-again : tie.Need-loop2-again Inv-loop μ-loop Inv-loop2 μ-loop2
+loop2-again c =
+    laid-subframe (c .before .before .before .before .before .before .args .r) (c .before .loop2 .inv)
+    (c .loop2-test .taken)
 
--- src/lib.rt:276:72
-array-read-t36 : tie.Need-array-read-t36
-array-read-t36 c = search needs
+array-write-fields-3 : tie.Need-array-write-fields-3 Inv-loop μ-loop Inv-loop2 μ-loop2
+array-write-fields-3 c = omega (arith, c .before .loop2 .inv .long)
 
--- src/lib.rt:276:78
-array-read-t39 : tie.Need-array-read-t39
-array-read-t39 c = search needs
-
--- src/lib.rt:276:84
-array-read-t42 : tie.Need-array-read-t42
-array-read-t42 c = search needs
-
--- src/lib.rt:276:90
-array-read-t45 : tie.Need-array-read-t45
-array-read-t45 c = search needs
-
--- src/lib.rt:276:96
-array-read-t48 : tie.Need-array-read-t48
-array-read-t48 c = search needs
-
--- src/lib.rt:276:102
-array-read-t51 : tie.Need-array-read-t51
-array-read-t51 c = search needs
-
--- src/lib.rt:276:108
-array-read-t54 : tie.Need-array-read-t54
-array-read-t54 c = search needs
-
--- src/lib.rt:276:114
-array-read-t57 : tie.Need-array-read-t57
-array-read-t57 c = search needs
-
--- src/lib.rt:276:120
-array-read-t60 : tie.Need-array-read-t60
-array-read-t60 c = search needs
-
--- src/lib.rt:277:9
-array-read-t63 : tie.Need-array-read-t63
-array-read-t63 c = search needs
-
--- src/lib.rt:277:15
-array-read-t66 : tie.Need-array-read-t66
-array-read-t66 c = search needs
-
--- src/lib.rt:277:22
-array-read-t69 : tie.Need-array-read-t69
-array-read-t69 c = search needs
-
--- src/lib.rt:277:29
-array-read-t72 : tie.Need-array-read-t72
-array-read-t72 c = search needs
-
--- src/lib.rt:277:36
-array-read-t75 : tie.Need-array-read-t75
-array-read-t75 c = search needs
-
--- src/lib.rt:277:43
-array-read-t78 : tie.Need-array-read-t78
-array-read-t78 c = search needs
-
--- src/lib.rt:277:50
-array-read-t81 : tie.Need-array-read-t81
-array-read-t81 c = search needs
-
--- src/lib.rt:270:1
-returns : tie.Need-returns
-unfolding tabulateFrom fieldsOf
-returns c = refl
+returns : tie.Need-returns Inv-loop μ-loop Inv-loop2 μ-loop2
+returns c =
+    laid-whole (c .before .before .before .before .before .before .args .r) (c .before .loop2 .inv)
+    (c .loop2-test .left)
 
 pub to-fields-spec : {M : Type 1} → statement M
 to-fields-spec =
     tie.close
-    (tie.spec
-    array-read-t6
-    array-read-t9
-    array-read-t12
-    array-read-t15
-    array-read-t18
-    array-read-t21
-    array-read-t24
-    array-read-t27
-    array-read-t30
-    array-read-t33
-    array-read-t36
-    array-read-t39
-    array-read-t42
-    array-read-t45
-    array-read-t48
-    array-read-t51
-    array-read-t54
-    array-read-t57
-    array-read-t60
-    array-read-t63
-    array-read-t66
-    array-read-t69
-    array-read-t72
-    array-read-t75
-    array-read-t78
-    array-read-t81
-    returns)
+    (tie.spec Inv-loop μ-loop Inv-loop2 μ-loop2 loop-holds (λ c. omega arith) (λ c. omega arith) (λ c. omega arith)
+    (λ c. omega arith)
+    array-write-fields (λ c. omega arith) (λ c. omega arith) loop-again loop2-holds (λ c. omega arith)
+    (λ c. omega arith) (λ c. omega arith)
+    (λ c. omega arith) array-write-fields-2 (λ c. omega arith) (λ c. omega arith) loop2-again array-write-fields-3
+    (λ c. omega arith) returns)

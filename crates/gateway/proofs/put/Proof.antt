@@ -26,7 +26,8 @@ loop-again : tie.Need-loop-again Inv-loop μ-loop Inv-loop2 μ-loop2
 loop-again c =
     let at-call = c .before .before in
     let at-test = at-call .before .before in
-    put-lsp (at-test .before .before .before .before .args .r) (at-test .before .loop .inv) (at-test .loop-test .taken) (at-call .put-pair .ensures)
+    put-lsp (at-test .before .before .before .before .args .r) (at-test .before .loop .inv)
+    (at-test .loop-test .taken) (at-call .put-pair .ensures)
 
 loop2-holds : tie.Need-loop2-holds Inv-loop μ-loop Inv-loop2 μ-loop2
 loop2-holds c =
@@ -37,7 +38,8 @@ loop2-again : tie.Need-loop2-again Inv-loop μ-loop Inv-loop2 μ-loop2
 loop2-again c =
     let at-call = c .before .before in
     let at-test = at-call .before .before in
-    put-subframe (at-test .before .before .before .before .before .before .before .args .r) (at-test .before .loop2 .inv) (at-test .loop2-test .taken)
+    put-subframe (at-test .before .before .before .before .before .before .before .args .r)
+    (at-test .before .loop2 .inv) (at-test .loop2-test .taken)
     (at-call .put-pair2 .ensures)
 
 returns : tie.Need-returns Inv-loop μ-loop Inv-loop2 μ-loop2
@@ -46,11 +48,15 @@ returns c =
     let at-sp = at-sy .before .before .before .before in
     let at-test = at-sp .before .before in
     let r = at-test .before .before .before .before .before .before .before .args .r in
-    put-whole r (put-sp r (at-test .before .loop2 .inv) (at-test .loop2-test .left) (at-sp .put-pair3 .ensures)) (at-sy .put-pair4 .ensures)
+    put-whole r (put-sp r (at-test .before .loop2 .inv) (at-test .loop2-test .left) (at-sp .put-pair3 .ensures))
+    (at-sy .put-pair4 .ensures)
 
 pub put-spec : {M : Type 1} → statement M
 put-spec =
     tie.close
-    (tie.spec Inv-loop μ-loop Inv-loop2 μ-loop2 loop-holds (λ c. omega arith) (λ c. omega arith) (λ c. omega arith) (λ c. omega arith)
-    (λ c. omega arith) (λ c. omega arith) loop-again loop2-holds (λ c. omega arith) (λ c. omega arith) (λ c. omega arith) (λ c. omega arith)
-    (λ c. omega arith) (λ c. omega arith) (λ c. omega arith) loop2-again (λ c. omega arith) (λ c. omega arith) (λ c. omega arith) returns)
+    (tie.spec Inv-loop μ-loop Inv-loop2 μ-loop2 loop-holds (λ c. omega arith) (λ c. omega arith) (λ c. omega arith)
+    (λ c. omega arith)
+    (λ c. omega arith) (λ c. omega arith) loop-again loop2-holds (λ c. omega arith) (λ c. omega arith)
+    (λ c. omega arith) (λ c. omega arith)
+    (λ c. omega arith) (λ c. omega arith) (λ c. omega arith) loop2-again (λ c. omega arith) (λ c. omega arith)
+    (λ c. omega arith) returns)

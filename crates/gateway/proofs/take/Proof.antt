@@ -25,25 +25,30 @@ loop-holds c = filled-none 0 _ 10 _ refl
 
 loop-again : tie.Need-loop-again Inv-loop μ-loop Inv-loop2 μ-loop2
 loop-again c =
-    take-lsp (c .before .before .before .before .args .bytes .now) (c .before .before .loop .inv) (c .before .loop-test .taken) (c .take-pair .ensures)
+    take-lsp (c .before .before .before .before .args .bytes .now) (c .before .before .loop .inv)
+    (c .before .loop-test .taken) (c .take-pair .ensures)
 
 loop2-holds : tie.Need-loop2-holds Inv-loop μ-loop Inv-loop2 μ-loop2
 loop2-holds c = filled-none 0 _ 16 _ refl
 
 loop2-again : tie.Need-loop2-again Inv-loop μ-loop Inv-loop2 μ-loop2
 loop2-again c =
-    take-subframe (c .before .before .before .before .before .before .args .bytes .now) (c .before .before .loop2 .inv) (c .before .loop2-test .taken) (c .take-pair2 .ensures)
+    take-subframe (c .before .before .before .before .before .before .args .bytes .now)
+    (c .before .before .loop2 .inv) (c .before .loop2-test .taken) (c .take-pair2 .ensures)
 
 returns : tie.Need-returns Inv-loop μ-loop Inv-loop2 μ-loop2
 returns c =
     let at-test2 = c .before .before in
     let at-test = at-test2 .before .before in
-    take-whole _ (at-test .before .loop .inv) (at-test .loop-test .left) (at-test2 .before .loop2 .inv) (at-test2 .loop2-test .left) _ _
+    take-whole _ (at-test .before .loop .inv) (at-test .loop-test .left) (at-test2 .before .loop2 .inv)
+    (at-test2 .loop2-test .left) _ _
     (c .before .take-pair3 .ensures) (c .take-pair4 .ensures)
 
 pub take-spec : {M : Type 1} → statement M
 take-spec =
     tie.close
-    (tie.spec Inv-loop μ-loop Inv-loop2 μ-loop2 loop-holds (λ c. omega arith) (λ c. omega arith) (λ c. omega arith) (λ c. omega arith)
-    (λ c. omega arith) (λ c. omega arith) loop-again loop2-holds (λ c. omega arith) (λ c. omega arith) (λ c. omega arith) (λ c. omega arith)
+    (tie.spec Inv-loop μ-loop Inv-loop2 μ-loop2 loop-holds (λ c. omega arith) (λ c. omega arith) (λ c. omega arith)
+    (λ c. omega arith)
+    (λ c. omega arith) (λ c. omega arith) loop-again loop2-holds (λ c. omega arith) (λ c. omega arith)
+    (λ c. omega arith) (λ c. omega arith)
     (λ c. omega arith) (λ c. omega arith) (λ c. omega arith) loop2-again (λ c. omega arith) (λ c. omega arith) returns)

@@ -10,10 +10,12 @@ use Rattle.gateway.proofs.take_pair.Statement.{statement}
 use Rattle.gateway.proofs.take_pair.Tie as tie
 
 -- both are bytes
-low : (c : tie.After-shared-slice-known2) → getD (c .before .before .args .bytes .now) (c .before .before .args .at) 0 < 256
+low : (c : tie.After-shared-slice-known2)
+    → getD (c .before .before .args .bytes .now) (c .before .before .args .at) 0 < 256
 low c = omega (arith, c .shared-slice-known2 .given (c .before .before .args .at))
 
-high : (c : tie.After-shared-slice-known2) → getD (c .before .before .args .bytes .now) (c .before .before .args .at + 1) 0 < 256
+high : (c : tie.After-shared-slice-known2)
+    → getD (c .before .before .args .bytes .now) (c .before .before .args .at + 1) 0 < 256
 high c = omega (arith, c .shared-slice-known2 .given (c .before .before .args .at + 1))
 
 cast-result : tie.Need-cast-result
