@@ -37,7 +37,7 @@ pub record InRange (r : Reading) : Type 0 where
 
 record-mark-most : (r : Record) → recordMark r ≤ 9
 unfolding recordMark
-record-mark-most r = mark-most (hertzOf (r .lsp))
+record-mark-most r = mark-most (hertzOf (r .lsp) .hz)
 
 no-record-fits : tooLarge noRecord ≡ 0
 unfolding tooLarge lowestFrom tabulateFrom

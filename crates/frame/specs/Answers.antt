@@ -19,7 +19,7 @@ use Rattle.frame.specs.declared.Written.the-variants as Written
 
 -- the order mark of a record
 unfoldable pub recordMark : Record → ℕ
-recordMark r = markOf (hertzOf (r .lsp))
+recordMark r = markOf (hertzOf (r .lsp) .hz)
 
 -- a record of nothing but 0
 abbrev pub noRecord : Record

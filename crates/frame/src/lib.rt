@@ -261,7 +261,9 @@ fn mark_of(r: Record) -> usize
     ensures { λ m. ⌜ m ≡ recordMark r ⌝ }
 {
     let indices = r.lsp;
-    lsp::order_mark(lsp::hertz(indices))
+    let present = lsp::in_hertz(indices);
+    let hz = present.hz;
+    lsp::order_mark(hz)
 }
 
 // The table, as the definitions have it.

@@ -14,3 +14,4 @@ pub mod Joined
 pub mod Turns
 pub mod Front
 pub mod Cases
+pub mod Wide

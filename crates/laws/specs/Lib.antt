@@ -5,3 +5,4 @@ pub mod Total
 pub mod Place
 pub mod Turns
 pub mod Bytes
+pub mod Unless

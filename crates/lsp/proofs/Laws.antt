@@ -3,21 +3,23 @@
 use mathlib.Core.Path.{_≡_, _∙_, sym, refl, ap, subst}
 use mathlib.Core.Bool.{Bool, true, cond}
 use mathlib.Core.List.{List, []}
-use Prim.Native.Nat.{ℕ, _+_, _*_, _-_, _%_, _^_, _<_, _≤_, min, max}
+use Prim.Native.Nat.{ℕ, _+_, _*_, _-_, _^_, _<_, _≤_, min, max}
 use native.Mathlib.Omega.{arith}
-use native.Mathlib.Nat.{min-le-left, min-le-right, le-max-left, le-max-right, mod-lt, mod-eq-of-lt}
-use native.Mathlib.Decide.{decLt}
+use native.Mathlib.Nat.{min-le-left, min-le-right, le-max-left, le-max-right}
+use native.Mathlib.Decide.{ℕ-discrete, decLt}
 use lib.Dec.{T, leb, ltb, eqb, leb→le, ltb→lt, eqb→eq}
 use lib.ListN.{length, getD, drop}
-use lib.Pow.{pow-pos}
 use lib.Seq.{getD-take, getD-drop}
-use borrow.Author.Tests.{ltb-true, ltb-false, lt-ltb, le-ltb}
+use borrow.Author.Tests.{ltb-true, ltb-false, lt-ltb, le-ltb, leb-true, leb-false, le-leb, lt-leb, eq-eqb, ne-eqb}
 use Rattle.laws.specs.Table.{both, every}
+use Rattle.laws.specs.Tabulate.{tabulate}
 use Rattle.laws.proofs.Table.{at, both-left, both-right}
 use Rattle.laws.proofs.Tabulate.{length-tabulate, getD-tabulate}
 use Rattle.laws.proofs.Cases.{of-four}
 use Rattle.laws.proofs.Lowest.{lowest-at, lowest-none, lowest-zero, lowest-found}
-use Rattle.lsp.specs.Table.{bits, hzTable, column, hzOf, lsp, hzAt, hertzOf}
+use Rattle.lsp.specs.Table.{bits, hzTable, column, hzOf, lsp, overIn, tooLarge, hzAt, hertzOf}
+use Rattle.lsp.specs.declared.Hertz.{Hertz}
+use Rattle.lsp.specs.declared.Verdict.the-variants.{Within, TooLarge}
 use Rattle.lsp.specs.Order.{falls, markOf, InOrder}
 use Rattle.lsp.specs.Average.{averageOf, averageAt, averagesOf, subframe}
 use Rattle.lsp.proofs.Weights.{eighths, eighths-at}
@@ -129,13 +131,9 @@ next-above c k t h =
 
 module _ (j : ℕ) (a : 1 ≤ j) (b : j ≤ 10) where
   -- a column has an entry for each index of its bits
-  pub column-long : length (column j) ≡ 2 ^ getD bits (j - 1) 0
+  pub column-long : length (column j) ≡ 2 ^ lsp bits j
   unfolding hzTable
   column-long = eqb→eq _ _ (at [] (λ k c. eqb (length c) (2 ^ getD bits k 0)) hzTable tt (j - 1) (omega arith))
-
-  -- an index that has no more bits counts as it is
-  pub hz-plain : (index : ℕ) → index < 2 ^ getD bits (j - 1) 0 → hzOf j index ≡ getD (column j) index 0
-  hz-plain index h = ap (λ (k : ℕ). getD (column j) k 0) (mod-eq-of-lt (subst (λ (n : ℕ). index < n) (sym column-long) h))
 
   -- the entries rise
   pub rises : (k : ℕ) → k + 1 < length (column j) → getD (column j) k 0 < getD (column j) (k + 1) 0
@@ -144,25 +142,72 @@ module _ (j : ℕ) (a : 1 ≤ j) (b : j ≤ 10) where
       let t = at [] (λ i c. every (below-next c) 0 c) hzTable tt (j - 1) (omega arith) in
       next-above (column j) k (at 0 (below-next (column j)) (column j) t k (omega arith)) h
 
-  pub hz-within : (index : ℕ) → (100 ≤ hzOf j index) × (hzOf j index ≤ 3830)
+  -- an index that fits has an entry, from 100 to 3,830 Hz
+  pub hz-within : (index : ℕ) → index < 2 ^ lsp bits j → (100 ≤ hzOf j index) × (hzOf j index ≤ 3830)
   unfolding hzTable
-  hz-within index =
+  hz-within index h =
       let t = at [] (λ i c. every within 0 c) hzTable tt (j - 1) (omega arith) in
-      let h : index % length (column j) < length (column j) = mod-lt index (subst (λ (n : ℕ). 0 < n) (sym column-long) (pow-pos (getD bits (j - 1) 0))) in
-      let u = at 0 within (column j) t (index % length (column j)) h in
+      let u = at 0 within (column j) t index (subst (λ (n : ℕ). index < n) (sym column-long) h) in
       let x : ℕ = hzOf j index in
       (leb→le 100 x (both-left (leb 100 x) (leb x 3830) u), leb→le x 3830 (both-right (leb 100 x) (leb x 3830) u))
 
-  -- LSP j of ten indices in Hz
-  pub hertz-at : (indices : List ℕ) → lsp (hertzOf indices) j ≡ hzOf j (lsp indices j)
+-- ---- ten indices in Hz
+
+module _ (indices : List ℕ) where
+  -- every index fits its bits
+  abbrev pub Fit : Type 0
+  Fit = (j : ℕ) → 1 ≤ j → j ≤ 10 → lsp indices j < 2 ^ lsp bits j
+
+  -- 0 says that every index fits, and the other way round
+  pub none-too-large : tooLarge indices ≡ 0 → Fit
+  unfolding tooLarge
+  none-too-large e j a b = leb-false _ _ (lowest-zero (overIn indices) 10 e j a b)
+
+  pub all-fit : Fit → tooLarge indices ≡ 0
+  unfolding tooLarge
+  all-fit f = lowest-none (overIn indices) 10 (λ j a b. lt-leb _ _ (f j a b))
+
+  -- any other number is the lowest LSP whose index does not fit, and the other way round
+  pub lowest-too-large : (j : ℕ) → tooLarge indices ≡ j → 1 ≤ j
+      → (j ≤ 10) × (2 ^ lsp bits j ≤ lsp indices j) × ((m : ℕ) → 1 ≤ m → m < j → lsp indices m < 2 ^ lsp bits m)
+  unfolding tooLarge
+  lowest-too-large j e a =
+      let f = lowest-found (overIn indices) 10 j e a in
+      (f .0, leb-true _ _ (f .1), λ m b c. leb-false _ _ (f .2 m b c))
+
+  pub too-large-at : (j : ℕ) → 1 ≤ j → j ≤ 10 → 2 ^ lsp bits j ≤ lsp indices j
+      → ((m : ℕ) → 1 ≤ m → m < j → lsp indices m < 2 ^ lsp bits m) → tooLarge indices ≡ j
+  unfolding tooLarge
+  too-large-at j a b here lower =
+      lowest-at (overIn indices) 10 j a b (λ m p q. lt-leb _ _ (lower m p q)) (le-leb _ _ here)
+
+  -- where every index fits, the ten are in Hz
+  pub hertz-given : tooLarge indices ≡ 0 → hertzOf indices ≡ record { verdict = Within; hz = tabulate (hzAt indices) 10 }
   unfolding hertzOf
-  hertz-at indices =
-      let e : j - 1 + 1 ≡ j = omega arith in
-      getD-tabulate (hzAt indices) 0 10 (j - 1) (omega arith) ∙ ap (λ (m : ℕ). hzOf m (lsp indices m)) e
+  hertz-given e = rw (eq-eqb (tooLarge indices) 0 e)
 
-  pub hertz-within : (indices : List ℕ) → (100 ≤ lsp (hertzOf indices) j) × (lsp (hertzOf indices) j ≤ 3830)
-  hertz-within indices = rw (hertz-at indices) (hz-within (lsp indices j))
+  -- where one does not, it is refused
+  pub hertz-refused : 1 ≤ tooLarge indices
+      → hertzOf indices ≡ record { verdict = TooLarge (tooLarge indices); hz = tabulate (λ k. 0) 10 }
+  unfolding hertzOf
+  hertz-refused h = rw (ne-eqb (tooLarge indices) 0 (λ z. omega arith))
 
-pub hertz-long : (indices : List ℕ) → length (hertzOf indices) ≡ 10
-unfolding hertzOf
-hertz-long indices = length-tabulate (hzAt indices) 10
+  -- ten numbers are answered in any case
+  pub hertz-long : length (hertzOf indices .hz) ≡ 10
+  hertz-long = go (ℕ-discrete (tooLarge indices) 0)
+    where
+      go : Dec (tooLarge indices ≡ 0) → length (hertzOf indices .hz) ≡ 10
+      go (yes e) = rw (hertz-given e) (length-tabulate (hzAt indices) 10)
+      go (no e) = rw (hertz-refused (omega arith)) (length-tabulate (λ k. 0) 10)
+
+  -- LSP j is the entry of its column at its index
+  pub hertz-at : tooLarge indices ≡ 0 → (j : ℕ) → 1 ≤ j → j ≤ 10 → lsp (hertzOf indices .hz) j ≡ hzOf j (lsp indices j)
+  hertz-at e j a b =
+      let m : j - 1 + 1 ≡ j = omega arith in
+      ap (λ (h : Hertz). lsp (h .hz) j) (hertz-given e) ∙ getD-tabulate (hzAt indices) 0 10 (j - 1) (omega arith)
+      ∙ ap (λ (n : ℕ). hzOf n (lsp indices n)) m
+
+  -- and from 100 to 3,830 Hz
+  pub hertz-within : tooLarge indices ≡ 0 → (j : ℕ) → 1 ≤ j → j ≤ 10
+      → (100 ≤ lsp (hertzOf indices .hz) j) × (lsp (hertzOf indices .hz) j ≤ 3830)
+  hertz-within e j a b = rw (hertz-at e j a b) (hz-within j a b (lsp indices j) (none-too-large e j a b))

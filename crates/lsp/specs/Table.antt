@@ -1,8 +1,15 @@
--- The coding of the ten line spectral parameters (3.7.2), in Hz.
+-- The coding of the ten line spectral parameters (3.7.2), in Hz, and its refusal (document 01, refusal 2).
+use mathlib.Core.Bool.{Bool}
 use mathlib.Core.List.{List, [], _∷_}
-use Prim.Native.Nat.{ℕ, _+_, _-_, _%_}
-use lib.ListN.{getD, length}
+use Prim.Native.Nat.{ℕ, _+_, _-_, _^_}
+use lib.Dec.{leb, eqb}
+use lib.ListN.{getD}
+use Rattle.laws.specs.Lowest.{lowest}
 use Rattle.laws.specs.Tabulate.{tabulate}
+use Rattle.laws.specs.Unless.{unless}
+use Rattle.lsp.specs.declared.Hertz.{Hertz}
+use Rattle.lsp.specs.declared.Verdict.{Verdict}
+use Rattle.lsp.specs.declared.Verdict.the-variants.{Within, TooLarge}
 
 -- how many bits the index of each parameter has, LSP 1 first
 abbrev pub bits : List ℕ
@@ -27,17 +34,38 @@ hzTable =
 abbrev pub column : ℕ → List ℕ
 column j = getD hzTable (j - 1) []
 
--- LSP j in Hz at an index, which counts by its lowest 3 or 4 bits, as the column has 8 or 16 entries
-abbrev pub hzOf : ℕ → ℕ → ℕ
-hzOf j index = getD (column j) (index % length (column j)) 0
-
 -- LSP j of a list of ten, counted from 1
 abbrev pub lsp : List ℕ → ℕ → ℕ
 lsp values j = getD values (j - 1) 0
+
+-- LSP j in Hz at an index
+abbrev pub hzOf : ℕ → ℕ → ℕ
+hzOf j index = getD (column j) index 0
+
+-- the index of LSP j does not fit its bits
+abbrev pub overIn : List ℕ → ℕ → Bool
+overIn indices j = leb (2 ^ lsp bits j) (lsp indices j)
+
+-- the lowest LSP whose index is too large, or 0
+unfoldable pub tooLarge : List ℕ → ℕ
+tooLarge indices = lowest (overIn indices) 10
 
 -- ten indices in Hz: at place i stands LSP i+1
 abbrev pub hzAt : List ℕ → ℕ → ℕ
 hzAt indices i = hzOf (i + 1) (lsp indices (i + 1))
 
-unfoldable pub hertzOf : List ℕ → List ℕ
-hertzOf indices = tabulate (hzAt indices) 10
+-- ten indices in Hz, or the refusal, and then nothing but 0
+unfoldable pub hertzOf : List ℕ → Hertz
+hertzOf indices =
+    unless (eqb (tooLarge indices) 0) (record { verdict = TooLarge (tooLarge indices); hz = tabulate (λ k. 0) 10 })
+    (record { verdict = Within; hz = tabulate (hzAt indices) 10 })
+
+-- the refusal's number, 0 where there is none
+abbrev pub refusalOf : Verdict → ℕ
+refusalOf Within = 0
+refusalOf (TooLarge j) = 2
+
+-- what the refusal tells: LSP j is field j
+abbrev pub tellsOf : Verdict → List ℕ
+tellsOf Within = []
+tellsOf (TooLarge j) = j ∷ []

@@ -1,9 +1,7 @@
 // The ten line spectral parameters of 3.7: an index in Hz, the order mark of ten parameters, and the averages of two frames.
 // LSP j stands at place j - 1 of a list of ten; all values are 16 bits, the averages are whole eighths of a Hz.
 ghost use mathlib.Core.Path.{_≡_};
-ghost use Prim.Native.Nat.{_+_, _%_, _<_};
-ghost use lib.ListN.{length};
-ghost use Rattle.lsp.specs.Table.{column, hertzOf};
+ghost use Rattle.lsp.specs.Table.{hertzOf};
 ghost use Rattle.lsp.specs.Order.{markOf};
 ghost use Rattle.lsp.specs.Average.{averagesOf};
 
@@ -27,35 +25,44 @@ const HZ: [[u16; 10]; 16] = [
     [0, 880, 1550, 1970, 2250, 0, 0, 0, 0, 0],
 ];
 
-// The ten indices in Hz. An index counts by its lowest bits, 3 or 4 as the table has 8 or 16 entries.
-pub fn hertz(indices: [u16; 10]) -> [u16; 10]
+// How many bits the index of each LSP has, LSP 1 first.
+const BITS: [u16; 10] = [3, 4, 4, 4, 4, 3, 3, 3, 3, 3];
+
+// Whether each index fits its bits, or the lowest LSP whose index is too large.
+pub enum Verdict {
+    Within,
+    TooLarge(usize),
+}
+
+// Ten LSPs in Hz; all are 0 where an index was refused.
+pub struct Hertz {
+    pub verdict: Verdict,
+    pub hz: [u16; 10],
+}
+
+// The ten indices in Hz, or the refusal.
+pub fn in_hertz(indices: [u16; 10]) -> Hertz
     ensures { λ r. ⌜ r ≡ hertzOf indices ⌝ }
 {
     let table = HZ;
-    let mut hz = indices;
+    let bits = BITS;
+    let mut hz = [0u16; 10];
     let mut i = 0;
     while i < 10 {
-        let index = lowest_bits(i, indices[i]);
-        hz[i] = table[index][i];
+        let index = indices[i];
+        if index >> bits[i] != 0 {
+            return Hertz {
+                verdict: Verdict::TooLarge(i + 1),
+                hz: [0u16; 10],
+            };
+        }
+        hz[i] = table[index as usize][i];
         i += 1;
     }
-    hz
-}
-
-// What counts of an index of LSP i+1: its lowest 4 bits for LSP 2 to 5, its lowest 3 for the others.
-fn lowest_bits(i: usize, index: u16) -> usize
-    requires { ⌜ i < 10 ⌝ }
-    ensures { λ r. ⌜ r ≡ index % length (column (i + 1)) ⌝ }
-    ensures { λ r. ⌜ r < 16 ⌝ }
-{
-    let x = index as usize;
-    if i == 0 {
-        return x % 8;
+    Hertz {
+        verdict: Verdict::Within,
+        hz,
     }
-    if i < 5 {
-        return x % 16;
-    }
-    x % 8
 }
 
 // The order mark: the lowest j for which LSP j+1 is below LSP j, or 0.
