@@ -4,14 +4,14 @@ use mathlib.Core.Path.{_≡_, _∙_, sym}
 use contract.Lifetimes.{Lfts}
 use denote.Triple.Clauses.{AtExit}
 use borrow.Fn.Kinds.{Dens, resT, endedOf}
-use Rattle.delays.proofs.heard.Kinds as heard
-use Rattle.delays.proofs.heard.Reads as heard-reads
+use Rattle.delays.proofs.meaning.Kinds as meaning
+use Rattle.delays.proofs.meaning.Reads as meaning-reads
 use Rattle.delays.proofs.codes.Kinds as codes
 use Rattle.delays.proofs.codes.Reads as codes-reads
 
-pub heard-determined : (κs : Lfts 0) (a : Dens κs heard.ps) (r₁ r₂ : resT heard.r κs .Denot) (x₁ x₂ : AtExit (endedOf 0 heard.ps heard.r) κs)
-    → heard-reads.Post κs a r₁ x₁ → heard-reads.Post κs a r₂ x₂ → r₁ ≡ r₂
-heard-determined κs a r₁ r₂ x₁ x₂ p q = p ∙ sym q
+pub meaning-determined : (κs : Lfts 0) (a : Dens κs meaning.ps) (r₁ r₂ : resT meaning.r κs .Denot)
+    (x₁ x₂ : AtExit (endedOf 0 meaning.ps meaning.r) κs) → meaning-reads.Post κs a r₁ x₁ → meaning-reads.Post κs a r₂ x₂ → r₁ ≡ r₂
+meaning-determined κs a r₁ r₂ x₁ x₂ p q = p ∙ sym q
 
 pub codes-determined : (κs : Lfts 0) (a : Dens κs codes.ps) (r₁ r₂ : resT codes.r κs .Denot) (x₁ x₂ : AtExit (endedOf 0 codes.ps codes.r) κs)
     → codes-reads.Post κs a r₁ x₁ → codes-reads.Post κs a r₂ x₂ → r₁ ≡ r₂

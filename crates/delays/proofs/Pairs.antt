@@ -2,9 +2,9 @@
 -- make those for four subframes.
 -- Assumes nothing.
 use mathlib.Core.Path.{_≡_, _∙_, sym, refl, ap}
-use mathlib.Core.Bool.{Bool, true, false, cond}
+use mathlib.Core.Bool.{Bool, true, false}
 use mathlib.Core.List.{List, [], _∷_}
-use Prim.Native.Nat.{ℕ, _+_, _-_, _%_, _<_, _≤_}
+use Prim.Native.Nat.{ℕ, _+_, _-_, _<_, _≤_}
 use native.Mathlib.Omega.{arith}
 use lib.Dec.{leb, ltb}
 use lib.ListN.{getD}
@@ -12,40 +12,75 @@ use borrow.Author.Tests.{lt-ltb, le-ltb, le-leb, lt-leb}
 use Rattle.laws.specs.Tabulate.{tabulate}
 use Rattle.laws.proofs.Tabulate.{getD-tabulate}
 use Rattle.delays.specs.Table.{delays, bytes, twelfthsOf, printedByte, rankOf, rankWith}
-use Rattle.delays.specs.Codes.{baseOf, firstRank, meantBy, listed, inWindow, unless, pairOf, codedOf}
+use Rattle.laws.specs.Unless.{unless}
+use Rattle.delays.specs.Codes.{baseOf, meantBy, listed, inWindow, pairOf, codedOf}
 use Rattle.delays.specs.Steps.{meantPair, codedPair, bothInside}
 use Rattle.delays.proofs.Table.{rank-below, byte-below}
+use Rattle.delays.specs.declared.Meant.the-variants.{Delays, TooLarge}
 use Rattle.delays.specs.declared.Coded.{Coded}
 use Rattle.delays.specs.declared.Coded.the-variants.{Codes, NotListed, OutsideWindow}
 use Rattle.delays.specs.declared.Pair.{Pair}
 use Rattle.delays.specs.declared.Pair.the-variants.{Inside, FirstNotListed, SecondNotListed, SecondOutside}
 
--- an index's lowest eight bits are a byte, and a six-bit code leads to one of the 256 ranks
-pub byte-part : (a : ℕ) → a % 256 < 256
-byte-part a = omega arith
+-- a six-bit code leads to one of the 256 ranks
+pub next-below : {low : ℕ} (rank b : ℕ) → b ≤ 63 → low ≡ baseOf rank → low + b < 256
+next-below rank b h e = omega arith
 
-pub next-below : {low : ℕ} (rank b : ℕ) → low ≡ baseOf rank → low + b % 64 < 256
-next-below rank b e = omega arith
+-- the rank that a code of subframe 1 or 3 means, from the table lent
+module _ {ranks : List ℕ} (t : ranks ≡ tabulate rankOf 256) (a : ℕ) (h : a ≤ 255) where
+  rank-read : getD ranks a 0 ≡ rankOf a
+  rank-read = rw t (getD-tabulate rankOf 0 256 a (omega arith))
 
--- the rank of an index of subframe 1 or 3, from the table lent
-module _ {ranks : List ℕ} (t : ranks ≡ tabulate rankOf 256) (a : ℕ) where
-  rank-read : getD ranks (a % 256) 0 ≡ firstRank a
-  rank-read = rw t (getD-tabulate rankOf 0 256 (a % 256) (byte-part a))
-
-  pub rank-read-below : getD ranks (a % 256) 0 < 256
-  rank-read-below = rw rank-read (rank-below (a % 256) (byte-part a))
+  pub rank-read-below : getD ranks a 0 < 256
+  rank-read-below = rw rank-read (rank-below a (omega arith))
 
   -- the two delays of a pair, from both tables and the base
-  pub pair-heard : {table : List ℕ} {low : ℕ} (b : ℕ) → table ≡ delays → low ≡ baseOf (getD ranks (a % 256) 0)
-      → getD table (getD ranks (a % 256) 0) 0 ∷ getD table (low + b % 64) 0 ∷ [] ≡ meantPair a b
+  pub pair-meant : {table : List ℕ} {low : ℕ} (b : ℕ) → table ≡ delays → low ≡ baseOf (getD ranks a 0)
+      → getD table (getD ranks a 0) 0 ∷ getD table (low + b) 0 ∷ [] ≡ meantPair a b
   unfolding twelfthsOf
-  pair-heard b d e = rw (e, d, rank-read)
+  pair-meant b d e = rw (e, d, rank-read)
 
--- the delays of two pairs are those of the four subframes
-pub four-heard : {p q : List ℕ} (codes : List ℕ) → p ≡ meantPair (getD codes 0 0) (getD codes 1 0) → q ≡ meantPair (getD codes 2 0) (getD codes 3 0)
-    → getD p 0 0 ∷ getD p 1 0 ∷ getD q 0 0 ∷ getD q 1 0 ∷ [] ≡ meantBy codes
-unfolding meantBy
-four-heard codes e f = rw (e, f)
+-- four codes: each that is too large is told by its subframe, past those that are not
+module _ (codes : List ℕ) where
+  pub first-large : 255 < getD codes 0 0 → TooLarge 1 ≡ meantBy codes
+  unfolding meantBy
+  first-large h = rw (lt-leb (getD codes 0 0) 255 h)
+
+  module _ (first : getD codes 0 0 ≤ 255) where
+    pub second-large : 63 < getD codes 1 0 → TooLarge 2 ≡ meantBy codes
+    unfolding meantBy
+    second-large h = rw (le-leb (getD codes 0 0) 255 first, lt-leb (getD codes 1 0) 63 h)
+
+    module _ (second : getD codes 1 0 ≤ 63) where
+      pub third-large : 255 < getD codes 2 0 → TooLarge 3 ≡ meantBy codes
+      unfolding meantBy
+      third-large h = rw (le-leb (getD codes 0 0) 255 first, le-leb (getD codes 1 0) 63 second, lt-leb (getD codes 2 0) 255 h)
+
+      module _ (third : getD codes 2 0 ≤ 255) where
+        pub fourth-large : 63 < getD codes 3 0 → TooLarge 4 ≡ meantBy codes
+        unfolding meantBy
+        fourth-large h =
+            rw (
+              le-leb (getD codes 0 0) 255 first,
+              le-leb (getD codes 1 0) 63 second,
+              le-leb (getD codes 2 0) 255 third,
+              lt-leb (getD codes 3 0) 63 h,
+            )
+
+        -- and where none is, the delays of two pairs are those of the four subframes
+        pub four-meant : {p q : List ℕ} → getD codes 3 0 ≤ 63
+            → p ≡ meantPair (getD codes 0 0) (getD codes 1 0) → q ≡ meantPair (getD codes 2 0) (getD codes 3 0)
+            → Delays (getD p 0 0) (getD p 1 0) (getD q 0 0) (getD q 1 0) ≡ meantBy codes
+        unfolding meantBy
+        four-meant fourth e f =
+            rw (
+              e,
+              f,
+              le-leb (getD codes 0 0) 255 first,
+              le-leb (getD codes 1 0) 63 second,
+              le-leb (getD codes 2 0) 255 third,
+              le-leb (getD codes 3 0) 63 fourth,
+            )
 
 -- delays of a and b twelfths, which have the ranks r and s
 module _ (a b : ℕ) {r : ℕ} (first : r ≡ rankWith a) where
@@ -63,7 +98,7 @@ module _ (a b : ℕ) {r : ℕ} (first : r ≡ rankWith a) where
 
     module _ (second-listed : s ≤ 255) {low : ℕ} (lowest : low ≡ baseOf r) where
       -- where both are listed, the window decides
-      decided : (w : Bool) → inWindow r s ≡ w → cond w (Inside r (s - low)) SecondOutside ≡ codedPair a b
+      decided : (w : Bool) → inWindow r s ≡ w → unless w SecondOutside (Inside r (s - low)) ≡ codedPair a b
       unfolding codedPair
       decided w e =
           let l : ltb (rankWith a) 256 ≡ true = lt-ltb (rankWith a) 256 (omega arith) in
@@ -95,17 +130,20 @@ carried n SecondNotListed rest = NotListed (n + 1)
 carried n SecondOutside rest = OutsideWindow (n + 1)
 carried n (Inside rank step) rest = rest rank step
 
+-- so the tests of a pair are those of two subframes
 carried-tests : (n r s : ℕ) (rest : ℕ → ℕ → Coded) (p q w : Bool)
-    → carried n (cond p (cond q (cond w (Inside r s) SecondOutside) SecondNotListed) FirstNotListed) rest
+    → carried n (unless p FirstNotListed (unless q SecondNotListed (unless w SecondOutside (Inside r s)))) rest
     ≡ unless p (NotListed n) (unless q (NotListed (n + 1)) (unless w (OutsideWindow (n + 1)) (rest r s)))
 carried-tests n r s rest false q w = refl
 carried-tests n r s rest true false w = refl
 carried-tests n r s rest true true false = refl
 carried-tests n r s rest true true true = refl
 
-pair-carried : (n a b : ℕ) (rest : ℕ → ℕ → Coded) → carried n (codedPair a b) rest ≡ pairOf n a b (rest (rankWith a) (rankWith b - baseOf (rankWith a)))
+pair-carried : (n a b : ℕ) (rest : ℕ → ℕ → Coded)
+    → carried n (codedPair a b) rest ≡ pairOf n a b (rest (rankWith a) (rankWith b - baseOf (rankWith a)))
 unfolding codedPair
-pair-carried n a b rest = carried-tests n (rankWith a) (rankWith b - baseOf (rankWith a)) rest (listed a) (listed b) (inWindow (rankWith a) (rankWith b))
+pair-carried n a b rest =
+    carried-tests n (rankWith a) (rankWith b - baseOf (rankWith a)) rest (listed a) (listed b) (inWindow (rankWith a) (rankWith b))
 
 -- the codes from the table of bytes
 module _ {table : List ℕ} (t : table ≡ bytes) where

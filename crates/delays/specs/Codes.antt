@@ -1,11 +1,14 @@
 -- What the four indices PD(1) to PD(4) of a record mean, and which indices four delays have (3.5.4, 3.5.5).
-use mathlib.Core.Bool.{Bool, cond}
+use mathlib.Core.Bool.{Bool}
 use mathlib.Core.List.{List, [], _∷_}
-use Prim.Native.Nat.{ℕ, _+_, _-_, _%_, min}
+use Prim.Native.Nat.{ℕ, _+_, _-_, _*_, min}
 use lib.Dec.{leb, ltb}
 use lib.ListN.{getD}
 use Rattle.laws.specs.Table.{both}
+use Rattle.laws.specs.Unless.{unless}
 use Rattle.delays.specs.Table.{twelfthsOf, printedByte, rankOf, rankWith}
+use Rattle.delays.specs.declared.Meant.{Meant}
+use Rattle.delays.specs.declared.Meant.the-variants.{Delays, TooLarge}
 use Rattle.delays.specs.declared.Coded.{Coded}
 use Rattle.delays.specs.declared.Coded.the-variants.{Codes, NotListed, OutsideWindow}
 
@@ -13,23 +16,22 @@ use Rattle.delays.specs.declared.Coded.the-variants.{Codes, NotListed, O
 abbrev pub baseOf : ℕ → ℕ
 baseOf rank = min (rank - 31) 192
 
--- the rank that a six-bit code means after a rank; a step over 63 counts by its lowest six bits
+-- the rank that a six-bit code means after a rank
 abbrev pub afterOf : ℕ → ℕ → ℕ
-afterOf rank step = baseOf rank + step % 64
+afterOf rank step = baseOf rank + step
 
--- the rank that the index of subframe 1 or 3 means: its lowest eight bits are the printed byte
-abbrev pub firstRank : ℕ → ℕ
-firstRank code = rankOf (code % 256)
+-- the delays in twelfths that codes a and c, of eight bits, and b and d, of six, mean; or the first subframe whose code is too large
+abbrev pub fourMeant : ℕ → ℕ → ℕ → ℕ → Meant
+fourMeant a b c d =
+    unless (leb a 255) (TooLarge 1)
+    (unless (leb b 63) (TooLarge 2)
+    (unless (leb c 255) (TooLarge 3)
+    (unless (leb d 63) (TooLarge 4)
+    (Delays (twelfthsOf (rankOf a)) (twelfthsOf (afterOf (rankOf a) b)) (twelfthsOf (rankOf c)) (twelfthsOf (afterOf (rankOf c) d))))))
 
--- the rank that the index of subframe 2 or 4 means, after the index of the subframe just before
-abbrev pub secondRank : ℕ → ℕ → ℕ
-secondRank before code = afterOf (firstRank before) code
-
--- the four delays in twelfths that a record's four indices mean
-unfoldable pub meantBy : List ℕ → List ℕ
-meantBy codes =
-    twelfthsOf (firstRank (getD codes 0 0)) ∷ twelfthsOf (secondRank (getD codes 0 0) (getD codes 1 0)) ∷
-    twelfthsOf (firstRank (getD codes 2 0)) ∷ twelfthsOf (secondRank (getD codes 2 0) (getD codes 3 0)) ∷ []
+-- what a record's four indices mean
+unfoldable pub meantBy : List ℕ → Meant
+meantBy codes = fourMeant (getD codes 0 0) (getD codes 1 0) (getD codes 2 0) (getD codes 3 0)
 
 -- a delay is in the list
 abbrev pub listed : ℕ → Bool
@@ -38,10 +40,6 @@ listed delay = ltb (rankWith delay) 256
 -- a rank is in the window of 64 ranks after another
 abbrev pub inWindow : ℕ → ℕ → Bool
 inWindow before rank = both (leb (baseOf before) rank) (leb rank (baseOf before + 63))
-
--- go on where a test holds, or else answer the refusal
-abbrev pub unless : Bool → Coded → Coded → Coded
-unless holds refusal rest = cond holds rest refusal
 
 -- subframes n and n + 1 with delays of a and b twelfths: the first refusal, or go on
 abbrev pub pairOf : ℕ → ℕ → ℕ → Coded → Coded
@@ -71,3 +69,12 @@ abbrev pub tellsOf : Coded → List ℕ
 tellsOf (Codes a b c d) = []
 tellsOf (NotListed subframe) = subframe ∷ []
 tellsOf (OutsideWindow subframe) = subframe ∷ []
+
+-- the same of codes: an index too large tells its field, the first of its subframe's four
+abbrev pub meantRefusal : Meant → ℕ
+meantRefusal (Delays a b c d) = 0
+meantRefusal (TooLarge subframe) = 2
+
+abbrev pub meantTells : Meant → List ℕ
+meantTells (Delays a b c d) = []
+meantTells (TooLarge subframe) = (10 + 4 * (subframe - 1) + 1) ∷ []

@@ -1,24 +1,24 @@
 -- What the private functions answer on the way to four delays or four codes: one pair of subframes, and both pairs together.
-use mathlib.Core.Bool.{cond}
 use mathlib.Core.List.{List, [], _∷_}
 use Prim.Native.Nat.{ℕ, _-_}
-use Rattle.delays.specs.Table.{twelfthsOf, printedByte, rankWith}
-use Rattle.delays.specs.Codes.{baseOf, firstRank, secondRank, listed, inWindow}
+use Rattle.laws.specs.Unless.{unless}
+use Rattle.delays.specs.Table.{twelfthsOf, printedByte, rankOf, rankWith}
+use Rattle.delays.specs.Codes.{baseOf, afterOf, listed, inWindow}
 use Rattle.delays.specs.declared.Coded.{Coded}
 use Rattle.delays.specs.declared.Coded.the-variants.{Codes}
 use Rattle.delays.specs.declared.Pair.{Pair}
 use Rattle.delays.specs.declared.Pair.the-variants.{Inside, FirstNotListed, SecondNotListed, SecondOutside}
 
--- the two delays in twelfths of subframes 1 and 2, or 3 and 4
+-- the two delays in twelfths that codes a and b of subframes 1 and 2, or 3 and 4, mean
 abbrev pub meantPair : ℕ → ℕ → List ℕ
-meantPair a b = twelfthsOf (firstRank a) ∷ twelfthsOf (secondRank a b) ∷ []
+meantPair a b = twelfthsOf (rankOf a) ∷ twelfthsOf (afterOf (rankOf a) b) ∷ []
 
 -- delays of a and b twelfths in subframes 1 and 2, or 3 and 4: the rank of the first and the code of the second, or what is refused
 unfoldable pub codedPair : ℕ → ℕ → Pair
 codedPair a b =
-    cond (listed a)
-    (cond (listed b)
-    (cond (inWindow (rankWith a) (rankWith b)) (Inside (rankWith a) (rankWith b - baseOf (rankWith a))) SecondOutside) SecondNotListed) FirstNotListed
+    unless (listed a) FirstNotListed
+    (unless (listed b) SecondNotListed
+    (unless (inWindow (rankWith a) (rankWith b)) SecondOutside (Inside (rankWith a) (rankWith b - baseOf (rankWith a)))))
 
 -- the codes of two pairs inside their windows, from the ranks of the first and third delay and the codes of the second and fourth
 abbrev pub bothInside : ℕ → ℕ → ℕ → ℕ → Coded

@@ -2,6 +2,7 @@
 // and the window of 64 ranks in which subframes 2 and 4 code theirs (3.5.5).
 // A table is taken once in a call, by one of the three functions that answer a table, and lent on.
 ghost use mathlib.Core.Path.{_≡_};
+ghost use Prim.Native.Nat.{_≤_};
 ghost use Rattle.delays.specs.Table.{delays, bytes, rankOf, rankWith};
 ghost use Rattle.delays.specs.Codes.{baseOf, meantBy, codedOf};
 ghost use Rattle.delays.specs.Steps.{meantPair, codedPair, bothInside};
@@ -43,27 +44,46 @@ fn base(rank: u16) -> u16
     rank - 31
 }
 
-// The two delays in twelfths that the indices of subframes 1 and 2, or 3 and 4, mean.
+// What four codes mean: the delays in twelfths, or the first subframe whose code is too large.
+pub enum Meant {
+    Delays(u16, u16, u16, u16),
+    TooLarge(usize),
+}
+
+// The two delays in twelfths that the codes of subframes 1 and 2, or 3 and 4, mean.
 fn meant_pair(ranks: &[u8; 256], table: &[u16; 256], first: u16, second: u16) -> [u16; 2]
     requires { ⌜ now ranks ≡ tabulate rankOf 256 ⌝ }
     requires { ⌜ now table ≡ delays ⌝ }
+    requires { ⌜ (first ≤ 255) × (second ≤ 63) ⌝ }
     ensures { λ r. ⌜ r ≡ meantPair first second ⌝ }
 {
-    let rank = ranks[(first % 256) as usize];
+    let rank = ranks[first as usize];
     let low = base(rank as u16);
-    let next = low + second % 64;
+    let next = low + second;
     [table[rank as usize], table[next as usize]]
 }
 
-// The four delays in twelfths that a record's four indices mean.
-pub fn heard(codes: [u16; 4]) -> [u16; 4]
+// The four delays in twelfths that four codes mean, or the refusal, subframe by subframe.
+pub fn meaning(codes: [u16; 4]) -> Meant
     ensures { λ r. ⌜ r ≡ meantBy codes ⌝ }
 {
+    if 255 < codes[0] {
+        return Meant::TooLarge(1);
+    }
+    if 63 < codes[1] {
+        return Meant::TooLarge(2);
+    }
+    if 255 < codes[2] {
+        return Meant::TooLarge(3);
+    }
+    if 63 < codes[3] {
+        return Meant::TooLarge(4);
+    }
     let ranks = ranks_by_byte();
     let table = twelfths_by_rank();
     let early = meant_pair(&ranks, &table, codes[0], codes[1]);
     let late = meant_pair(&ranks, &table, codes[2], codes[3]);
-    [early[0], early[1], late[0], late[1]]
+    Meant::Delays(early[0], early[1], late[0], late[1])
 }
 
 // The codes of four delays, or the first refusal, with its subframe.

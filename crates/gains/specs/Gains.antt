@@ -1,17 +1,17 @@
 -- From an index to its gain, and what a refusal says (document 01, "Gains" and "Refusal numbers").
-use mathlib.Core.Bool.{cond}
 use mathlib.Core.List.{List, [], _∷_}
 use Prim.Native.Nat.{ℕ}
 use lib.Dec.{leb}
 use lib.IntN.{ℤ, pos}
 use lib.ListN.{getD}
+use Rattle.laws.specs.Unless.{unless}
 use Rattle.gains.specs.declared.Gain.{Gain}
 use Rattle.gains.specs.declared.Gain.the-variants.{Value, TooLarge}
 use Rattle.gains.specs.Tables.{cgTable, pgTable}
 
 -- an index over 31 is too large for the five bits of its field
 unfoldable pub gainOf : List ℤ → ℕ → Gain
-gainOf table i = cond (leb i 31) (Value (getD table i (pos 0))) TooLarge
+gainOf table i = unless (leb i 31) TooLarge (Value (getD table i (pos 0)))
 
 abbrev pub cgOf : ℕ → Gain
 cgOf i = gainOf cgTable i

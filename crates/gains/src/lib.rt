@@ -8,75 +8,21 @@ ghost use Rattle.gains.specs.Gains.{gainOf, cgOf, pgOf};
 ghost use Rattle.gains.specs.Nearest.{apart, nearestOf};
 
 // The stochastic code gains, index 0 first. Index 10 is printed 98 in our copy, which document 01 corrects.
+#[rattlefmt::skip]
 pub const CG: [i16; 32] = [
-    -1330,
-    -870,
-    -660,
-    -520,
-    -418,
-    -340,
-    -278,
-    -224,
-    -178,
-    -136,
-    -98,
-    -64,
-    -35,
-    -13,
-    -3,
-    -1,
-    1,
-    3,
-    13,
-    35,
-    64,
-    98,
-    136,
-    178,
-    224,
-    278,
-    340,
-    418,
-    520,
-    660,
-    870,
-    1330,
+    -1330, -870, -660, -520, -418, -340, -278, -224,
+    -178, -136, -98, -64, -35, -13, -3, -1,
+    1, 3, 13, 35, 64, 98, 136, 178,
+    224, 278, 340, 418, 520, 660, 870, 1330,
 ];
 
 // The adaptive code gains in thousandths, index 0 first.
+#[rattlefmt::skip]
 pub const PG: [i16; 32] = [
-    -993,
-    -831,
-    -693,
-    -555,
-    -414,
-    -229,
-    0,
-    139,
-    255,
-    368,
-    457,
-    531,
-    601,
-    653,
-    702,
-    745,
-    780,
-    816,
-    850,
-    881,
-    915,
-    948,
-    983,
-    1020,
-    1062,
-    1117,
-    1193,
-    1289,
-    1394,
-    1540,
-    1765,
-    1991,
+    -993, -831, -693, -555, -414, -229, 0, 139,
+    255, 368, 457, 531, 601, 653, 702, 745,
+    780, 816, 850, 881, 915, 948, 983, 1020,
+    1062, 1117, 1193, 1289, 1394, 1540, 1765, 1991,
 ];
 
 // The gain of an index, or that the index is too large for its field.
@@ -89,37 +35,18 @@ pub enum Gain {
 pub fn cg(index: u16) -> Gain
     ensures { λ r. ⌜ r ≡ cgOf index ⌝ }
 {
-    let table = CG;
-    gain_at(&table, index)
+    gain_at(&CG, index)
 }
 
 // The adaptive code gain of an index, in thousandths.
 pub fn pg(index: u16) -> Gain
     ensures { λ r. ⌜ r ≡ pgOf index ⌝ }
 {
-    let table = PG;
-    gain_at(&table, index)
+    gain_at(&PG, index)
 }
 
-// The index of the stochastic code gain nearest to x.
-pub fn nearest_cg(x: i32) -> u16
-    ensures { λ r. ⌜ r ≡ nearestOf cgTable x ⌝ }
-{
-    let table = CG;
-    nearest(&table, x)
-}
-
-// The index of the adaptive code gain nearest to x thousandths.
-pub fn nearest_pg(x: i32) -> u16
-    ensures { λ r. ⌜ r ≡ nearestOf pgTable x ⌝ }
-{
-    let table = PG;
-    nearest(&table, x)
-}
-
-// The entry of a table of 32 at an index.
-fn gain_at(table: &[i16], index: u16) -> Gain
-    requires { ⌜ length (now table) ≡ 32 ⌝ }
+// The gain of an index in a table lent, for whoever looks up several.
+pub fn gain_at(table: &[i16; 32], index: u16) -> Gain
     ensures { λ r. ⌜ r ≡ gainOf (now (table .entry)) index ⌝ }
 {
     if 31 < index {
@@ -129,6 +56,20 @@ fn gain_at(table: &[i16], index: u16) -> Gain
     let entry = table[i];
     let gain = entry as i32;
     Gain::Value(gain)
+}
+
+// The index of the stochastic code gain nearest to x.
+pub fn nearest_cg(x: i32) -> u16
+    ensures { λ r. ⌜ r ≡ nearestOf cgTable x ⌝ }
+{
+    nearest(&CG, x)
+}
+
+// The index of the adaptive code gain nearest to x thousandths.
+pub fn nearest_pg(x: i32) -> u16
+    ensures { λ r. ⌜ r ≡ nearestOf pgTable x ⌝ }
+{
+    nearest(&PG, x)
 }
 
 // The index of the entry nearest to x, the lowest of equally near ones.

@@ -15,3 +15,4 @@ pub mod Turns
 pub mod Front
 pub mod Cases
 pub mod Wide
+pub mod Unless

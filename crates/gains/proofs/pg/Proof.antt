@@ -1,6 +1,6 @@
 -- `gains::pg` meets its contract: the constant `PG` is the list `pgTable`.
 -- Assumes nothing.
-use borrow.Author.Needs.{needs}
+use native.Mathlib.Omega.{arith}
 use Rattle.gains.specs.Tables.{pgTable}
 use Rattle.gains.proofs.pg.Statement.{statement}
 use Rattle.gains.proofs.pg.Tie as tie
@@ -10,4 +10,4 @@ unfolding pgTable
 returns c = c .gain-at .ensures
 
 pub pg-spec : {M : Type 1} → statement M
-pg-spec = tie.close (tie.spec (search needs) (search needs) returns)
+pg-spec = tie.close (tie.spec (λ c κs. omega arith) returns)
