@@ -9,9 +9,10 @@ pub mod draws;
 pub mod frame;
 pub mod gains;
 pub mod hear;
+pub mod leaves;
 pub mod listing;
 pub mod lsp;
-pub mod numbers;
+
 pub mod recording;
 pub mod refusal;
 pub mod tables;

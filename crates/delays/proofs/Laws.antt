@@ -178,8 +178,7 @@ pub meant-within : (a b c d w x y z : ℕ) → fourMeant a b c d ≡ Delays w x 
 meant-within a b c d w x y z e =
     let m = meant-fit a b c d e in
     let f = m .0 in
-    let s : Delays (firstMeant a b c d) (secondMeant a b c d) (thirdMeant a b c d) (fourthMeant a b c d) ≡ Delays w x y z = m .1 in
-    (
+    let s : Delays (firstMeant a b c d) (secondMeant a b c d) (thirdMeant a b c d) (fourthMeant a b c d) ≡ Delays w x y z = m .1 in (
       subst Within (cc) (rank-within (rankOf a) (rank-below a (f .first))),
       subst Within (cc) (rank-within (afterOf (rankOf a) b) (after-below (rankOf a) b (f .second))),
       subst Within (cc) (rank-within (rankOf c) (rank-below c (f .third))),

@@ -4,6 +4,7 @@ use crate::gain;
 use crate::number;
 use codebook::Generator;
 use codebook::Written;
+use std::num::wrapping_add_u16;
 
 // An index and the length of a buffer that holds 1 everywhere before: the refusal and the buffer's elements as one number.
 pub fn number(case: &[u8]) -> u64 {
@@ -52,15 +53,9 @@ fn sign(element: i8) -> u32 {
     1
 }
 
-// Two positions and how many draws: the numbers drawn from the standard's own, and the positions after them.
+// How far the two positions are from the standard's own, and how many draws: the numbers drawn as one.
 pub fn drawn(case: &[u8]) -> u64 {
-    let fresh = Generator::fresh();
-    let kept = fresh.kept;
-    let mut generator = Generator {
-        kept,
-        first: case::short(case, 0),
-        second: case::short(case, 1),
-    };
+    let mut generator = start(case::short(case, 0), case::short(case, 1));
     let count = case::short(case, 2);
     let mut sum = 0;
     let mut k = 0;
@@ -71,4 +66,15 @@ pub fn drawn(case: &[u8]) -> u64 {
         k += 1;
     }
     sum
+}
+
+// The standard's own generator with its positions so far on.
+fn start(first: u16, second: u16) -> Generator {
+    let fresh = Generator::fresh();
+    let kept = fresh.kept;
+    Generator {
+        kept,
+        first: wrapping_add_u16(fresh.first, first),
+        second: wrapping_add_u16(fresh.second, second),
+    }
 }

@@ -2,6 +2,7 @@
 // through them many times and prints the sum alone. outside/CASES.md says how a case is laid out and what its number is.
 mod case;
 mod code;
+mod delay;
 mod gain;
 mod lsps;
 mod number;
@@ -69,6 +70,8 @@ fn answered(kind: u8, case: &[u8]) -> u64 {
         b'p' => gain::number(gains::pg(case::short(case, 0))),
         b'n' => gains::nearest_cg(case::signed(case)) as u64,
         b'q' => gains::nearest_pg(case::signed(case)) as u64,
+        b'm' => delay::meant(case),
+        b's' => delay::coded(case),
         b'l' => lsps::number(case),
         b'e' => code::number(case),
         b'g' => code::drawn(case),

@@ -1,16 +1,16 @@
 // One number for an answer.
 
-// A refusal and what it tells.
+// A refusal's number and what it tells.
 pub fn refused(refusal: u16, tells: u16) -> u64 {
     9000000000000000000 + 100000 * refusal as u64 + tells as u64
 }
 
-// Four numbers, the first lowest.
+// Four numbers of sixteen bits, the first lowest.
 pub fn packed(a: u16, b: u16, c: u16, d: u16) -> u64 {
     a as u64 + 65536 * b as u64 + 4294967296 * c as u64 + 281474976710656 * d as u64
 }
 
-// One more of many.
+// Many numbers as one, with one more: 31 times as much and that, modulo 2 to the 31st.
 pub fn with(sum: u64, n: u32) -> u64 {
     (31 * (sum % 2147483648) + n as u64) % 2147483648
 }

@@ -17,7 +17,7 @@ fn laid_in(kind: u8, case: &[u8], room: &mut [u8]) -> usize {
     laid(kind, case, &mut room[..long])
 }
 
-// Lays a byte, a word or a number at a position.
+// Lays a byte, the case itself as a word, or a number, at a position.
 fn laid(kind: u8, case: &[u8], out: &mut [u8]) -> usize {
     let at = case::word(case, 1) as usize;
     match kind {
