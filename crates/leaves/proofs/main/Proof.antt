@@ -25,5 +25,5 @@ run-requires c κs =
 pub main-spec : {M : Type 1} → statement M
 main-spec =
     tie.close
-    (tie.spec (search needs) (search needs) (search needs) (search needs) array-share-prefix-cases slice-aggregate-run run-requires
-    (search needs) (search needs))
+    (tie.spec (search needs) (λ c κs. tt) (search needs) (search needs) array-share-prefix-cases slice-aggregate-run run-requires
+    (λ c. tt) (λ c. tt))
