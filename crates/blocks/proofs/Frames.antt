@@ -6,20 +6,18 @@ use Prim.Native.Nat.{ℕ, zero, suc, _+_, _-_, _*_, _/_, _<_, _≤_}
 use native.Mathlib.Omega.{arith}
 use native.Mathlib.Nat.{add-zero}
 use native.Mathlib.Decide.{ℕ-discrete, decLt}
-use borrow.Author.Tests.{eq-eqb, ne-eqb, lt-ltb, le-ltb}
+use borrow.Author.Tests.{eq-eqb, ne-eqb, le-leb, lt-leb}
 use lib.ListN.{length, take, drop, length-drop}
 use lib.Seq.{take-take, take-add, drop-at, drop-drop, length-take-le}
 use Rattle.laws.proofs.Turns.{turns-once}
 use Rattle.blocks.specs.Blocks.{part}
 use Rattle.blocks.specs.Walk.{walkedOf}
-use Rattle.blocks.specs.Frames.{voiceSize, voicesFrom, afterHead, ifWhole, payloadsOf, cut, eighteens, framesIn, framesOf, foundAt, framesWith, framesFrom}
+use Rattle.blocks.specs.Frames.{voiceSize, voicesFrom, cut, eighteens, framesIn, framesOf, foundAt, framesWith, framesFrom}
 use Rattle.blocks.specs.declared.Cause.{Cause}
-use Rattle.blocks.specs.declared.Heading.{Heading}
-use Rattle.blocks.specs.declared.Walked.{Walked}
-use Rattle.blocks.specs.declared.Walked.the-variants as Walked
+use Rattle.blocks.specs.declared.Ending.the-variants.{Sound, Refused}
 use Rattle.blocks.specs.declared.Found.{Found}
 use Rattle.blocks.specs.declared.Found.the-variants.{At, Nothing}
-use Rattle.blocks.proofs.Voices.{Sized, voice-sized, voices-none, voices-more}
+use Rattle.blocks.proofs.Voices.{Sized, voice-sized, voices-none, voices-more, payloads-refused, payloads-sound}
 
 -- the returns of `find`
 module _ (s : List ℕ) (at left : ℕ) where
@@ -34,15 +32,15 @@ module _ (s : List ℕ) (at left : ℕ) where
 
   pub too-few-left : (left ≡ 0 → ⊥) → left < 18 → Nothing ≡ foundAt s at left
   unfolding foundAt
-  too-few-left z l = rw (ne-eqb left 0 z, lt-ltb left 18 l)
+  too-few-left z l = rw (ne-eqb left 0 z, lt-leb 18 left l)
 
   pub too-short : (left ≡ 0 → ⊥) → 18 ≤ left → length s < at + 18 → Nothing ≡ foundAt s at left
   unfolding foundAt
-  too-short z l h = rw (ne-eqb left 0 z, le-ltb left 18 l, lt-ltb (length s) (at + 18) h)
+  too-short z l h = rw (ne-eqb left 0 z, le-leb 18 left l, lt-leb (at + 18) (length s) h)
 
   pub next-frame : (left ≡ 0 → ⊥) → 18 ≤ left → at + 18 ≤ length s → At at (left - 18) ≡ foundAt s at left
   unfolding foundAt
-  next-frame z l h = rw (ne-eqb left 0 z, le-ltb left 18 l, le-ltb (length s) (at + 18) h)
+  next-frame z l h = rw (ne-eqb left 0 z, le-leb 18 left l, le-leb (at + 18) (length s) h)
 
 -- a frame that was found stands within the bytes, and not before the place
 pub record Within (s : List ℕ) (at first : ℕ) : Type 0 where
@@ -154,12 +152,12 @@ frames-voices s (suc n) at h =
         long : length (part s (at + 6) size) ≡ size
         long = length-take-le size (drop (at + 6) s) (simp length-drop (omega (arith, t .fits)))
 
--- the frames of a recording
-pub frames-refused : (s : List ℕ) (cause : Cause) → walkedOf s ≡ Walked.Refused cause → framesOf s ≡ []
-unfolding framesOf payloadsOf framesIn
-frames-refused s cause e = ap (λ (w : Walked). framesIn (ifWhole w (voicesFrom s afterHead) [])) e
+-- the frames of a recording: none of a refused one, of a sound one those found from behind its head on
+pub frames-refused : (s : List ℕ) (cause : Cause) → walkedOf s .ending ≡ Refused cause → framesOf s ≡ []
+unfolding framesOf framesIn
+frames-refused s cause e = ap framesIn (payloads-refused s cause e)
 
-pub frames-whole : (s : List ℕ) (h : Heading) → walkedOf s ≡ Walked.Whole h → framesOf s ≡ framesFrom s afterHead 0
-unfolding framesOf payloadsOf
-frames-whole s h e =
-    ap (λ (w : Walked). framesIn (ifWhole w (voicesFrom s afterHead) [])) e ∙ sym (frames-voices s (suc (length s)) afterHead (omega arith))
+pub frames-sound : (s : List ℕ) → walkedOf s .ending ≡ Sound → framesOf s ≡ framesFrom s (walkedOf s .walk .voices) 0
+unfolding framesOf
+frames-sound s e =
+    ap framesIn (payloads-sound s e) ∙ sym (frames-voices s (suc (length s)) (walkedOf s .walk .voices) (omega arith))

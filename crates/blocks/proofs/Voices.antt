@@ -1,23 +1,26 @@
 -- The voice blocks from a place on, one block at a time, and the part of the bytes that the k-th is.
 -- Assumes nothing.
 use mathlib.Core.Path.{_≡_, _∙_, sym, refl, ap, subst}
-use mathlib.Core.List.{List, [], _∷_}
-use Prim.Native.Nat.{ℕ, suc, _+_, _-_, _%_, _<_, _≤_}
+use mathlib.Core.List.{List, [], _∷_, map}
+use Prim.Native.Nat.{ℕ, zero, suc, _+_, _-_, _%_, _<_, _≤_}
 use native.Mathlib.Omega.{arith}
 use native.Mathlib.Decide.{ℕ-discrete}
 use borrow.Author.Tests.{eq-eqb, ne-eqb}
-use lib.ListN.{length, getD}
+use lib.ListN.{length, getD, List·getD-map}
 use Rattle.laws.proofs.Turns.{turns-once}
 use Rattle.blocks.specs.Blocks.{blockAt, part}
 use Rattle.blocks.specs.Walk.{walkedOf}
-use Rattle.blocks.specs.Frames.{voiceIn, voiceSize, voicesWith, voicesFrom, afterHead, ifWhole, payloadsOf, voiceBlockOf, Spans}
+use Rattle.blocks.specs.Frames.{voiceIn, voiceSize, spanAt, spansWith, spansFrom, ifSound, spansOf, nowhere, spanOf}
+use Rattle.blocks.specs.Frames.{bytesAt, voicesFrom, payloadsOf, voiceBlockOf}
 use Rattle.blocks.specs.declared.Cause.{Cause}
 use Rattle.blocks.specs.declared.Block.{Block}
 use Rattle.blocks.specs.declared.Block.the-variants.{Head, Voice, End, Broken}
 use Rattle.blocks.specs.declared.Heading.{Heading}
+use Rattle.blocks.specs.declared.Span.{Span}
 use Rattle.blocks.specs.declared.Walked.{Walked}
-use Rattle.blocks.specs.declared.Walked.the-variants.{Whole, Refused}
-use Rattle.blocks.proofs.Blocks.{Bounds, voice-told}
+use Rattle.blocks.specs.declared.Ending.{Ending}
+use Rattle.blocks.specs.declared.Ending.the-variants.{Sound, Refused}
+use Rattle.blocks.proofs.Blocks.{Bounds, voice-held}
 
 -- the returns of `voice_size`
 module _ (s : List ℕ) (at : ℕ) where
@@ -25,8 +28,8 @@ module _ (s : List ℕ) (at : ℕ) where
   unfolding voiceSize
   size-of b e = ap voiceIn (sym e)
 
-  pub head-no-voice : (unit number : ℕ) → blockAt s at ≡ Head unit number → 0 ≡ voiceSize s at
-  head-no-voice unit number e = size-of (Head unit number) e
+  pub head-no-voice : (h : Heading) → blockAt s at ≡ Head h → 0 ≡ voiceSize s at
+  head-no-voice h e = size-of (Head h) e
 
   pub voice-itself : (size : ℕ) → blockAt s at ≡ Voice size → size ≡ voiceSize s at
   voice-itself size e = size-of (Voice size) e
@@ -43,7 +46,7 @@ unfolding voiceSize
 voice-there s at n = go (blockAt s at) n
   where
     go : (b : Block) → (voiceIn b ≡ 0 → ⊥) → b ≡ Voice (voiceIn b)
-    go (Head unit number) n = absurd (n refl)
+    go (Head h) n = absurd (n refl)
     go (Voice size) n = refl
     go (End told) n = absurd (n refl)
     go (Broken cause) n = absurd (n refl)
@@ -57,85 +60,156 @@ pub record Sized (s : List ℕ) (at size : ℕ) : Type 0 where
 -- the block that it stands in
 pub voice-bounds : (s : List ℕ) (at size : ℕ) → size ≡ voiceSize s at → (size ≡ 0 → ⊥) → Bounds s at size 2
 voice-bounds s at size e n =
-    subst (λ (k : ℕ). Bounds s at k 2) (sym e) (voice-told s at (voiceSize s at) (voice-there s at (λ z. n (e ∙ z))) .0)
+    subst (λ (k : ℕ). Bounds s at k 2) (sym e) (voice-held s at (voiceSize s at) (voice-there s at (λ z. n (e ∙ z))) .0)
 
 pub voice-sized : (s : List ℕ) (at size : ℕ) → size ≡ voiceSize s at → (size ≡ 0 → ⊥) → Sized s at size
 voice-sized s at size e n =
-    let t = voice-told s at (voiceSize s at) (voice-there s at (λ z. n (e ∙ z))) in
+    let t = voice-held s at (voiceSize s at) (voice-there s at (λ z. n (e ∙ z))) in
     let f : at + 6 + size ≤ length s = rw e (t .0 .fits) in
     let w : size % 18 ≡ 0 = rw e (t .2) in
     record { fits = f; least = omega (arith, w); whole = w }
 
--- the voice blocks are those of one step and the rest
-pub voices-step : (s : List ℕ) (at : ℕ) → voicesFrom s at ≡ voicesWith s (voicesFrom s) at (voiceSize s at)
-unfolding voicesFrom
-voices-step s at =
-    turns-once [] (λ further at. voicesWith s further at (voiceSize s at)) (λ at. length s - at) falls (suc (length s)) at (omega arith)
+-- the places of the voice blocks are those of one step and the rest
+pub spans-step : (s : List ℕ) (at : ℕ) → spansFrom s at ≡ spansWith (spansFrom s) at (voiceSize s at)
+unfolding spansFrom
+spans-step s at =
+    turns-once [] (λ further at. spansWith further at (voiceSize s at)) (λ at. length s - at) falls (suc (length s)) at (omega arith)
   where
-    falls : (g h : ℕ → List (List ℕ)) (x : ℕ) → ((y : ℕ) → length s - y < length s - x → g y ≡ h y)
-        → voicesWith s g x (voiceSize s x) ≡ voicesWith s h x (voiceSize s x)
+    falls : (g h : ℕ → List Span) (x : ℕ) → ((y : ℕ) → length s - y < length s - x → g y ≡ h y)
+        → spansWith g x (voiceSize s x) ≡ spansWith h x (voiceSize s x)
     falls g h x same = go (ℕ-discrete (voiceSize s x) 0)
       where
-        go : Dec (voiceSize s x ≡ 0) → voicesWith s g x (voiceSize s x) ≡ voicesWith s h x (voiceSize s x)
+        go : Dec (voiceSize s x ≡ 0) → spansWith g x (voiceSize s x) ≡ spansWith h x (voiceSize s x)
         go (yes z) = rw z
         go (no n) =
             let t = voice-sized s x (voiceSize s x) refl n in
             rw (ne-eqb (voiceSize s x) 0 n)
-            (ap (λ (l : List (List ℕ)). part s (x + 6) (voiceSize s x) ∷ l) (same (x + 6 + voiceSize s x) (omega (arith, t .fits))))
+            (ap (λ (l : List Span). spanAt x (voiceSize s x) ∷ l) (same (x + 6 + voiceSize s x) (omega (arith, t .fits))))
 
+-- where no voice block stands there are none
+pub spans-none : (s : List ℕ) (at size : ℕ) → size ≡ voiceSize s at → size ≡ 0 → spansFrom s at ≡ []
+spans-none s at size e z = spans-step s at ∙ rw (eq-eqb (voiceSize s at) 0 (sym e ∙ z))
+
+-- where one stands there is its payload's, and then those from behind it on
+pub spans-more : (s : List ℕ) (at size : ℕ) → size ≡ voiceSize s at → (size ≡ 0 → ⊥)
+    → spansFrom s at ≡ spanAt at size ∷ spansFrom s (at + 6 + size)
+spans-more s at size e n =
+    spans-step s at ∙ rw (ne-eqb (voiceSize s at) 0 (λ z. n (e ∙ z)))
+    (ap (λ (z : ℕ). spanAt at z ∷ spansFrom s (at + 6 + z)) (sym e))
+
+-- the same of the payloads
 pub voices-none : (s : List ℕ) (at size : ℕ) → size ≡ voiceSize s at → size ≡ 0 → voicesFrom s at ≡ []
-voices-none s at size e z = voices-step s at ∙ rw (eq-eqb (voiceSize s at) 0 (sym e ∙ z))
+unfolding voicesFrom
+voices-none s at size e z = ap (map (bytesAt s)) (spans-none s at size e z)
 
 pub voices-more : (s : List ℕ) (at size : ℕ) → size ≡ voiceSize s at → (size ≡ 0 → ⊥)
     → voicesFrom s at ≡ part s (at + 6) size ∷ voicesFrom s (at + 6 + size)
+unfolding voicesFrom
 voices-more s at size e n =
-    voices-step s at ∙ rw (ne-eqb (voiceSize s at) 0 (λ z. n (e ∙ z)))
-    (ap (λ (z : ℕ). part s (at + 6) z ∷ voicesFrom s (at + 6 + z)) (sym e))
+    let m : at + 6 + size - (at + 6) ≡ size = omega arith in
+    ap (map (bytesAt s)) (spans-more s at size e n) ∙ ap (λ (k : ℕ). part s (at + 6) k ∷ voicesFrom s (at + 6 + size)) m
 
--- an empty part stands anywhere
-pub nowhere : (s : List ℕ) → Spans s [] (record { from = 0; to = 0 })
-nowhere s = record { ordered = omega arith; within = omega arith; holds = refl }
+-- the loop of `span_from`: of the voice blocks from `at` on, the one with `before` before it is the k-th from the start on
+pub record Seeking (s : List ℕ) (voices k at before : ℕ) : Type 0 where
+  pub rest : getD (spansFrom s at) before nowhere ≡ getD (spansFrom s voices) k nowhere
 
--- the loop of `span_after_head`: of the voice blocks from `at` on, the one with `before` before it is the k-th of all
-pub record Seeking (s : List ℕ) (k at before : ℕ) : Type 0 where
-  pub rest : getD (voicesFrom s at) before [] ≡ getD (voicesFrom s afterHead) k []
+pub seeking-start : (s : List ℕ) (voices k : ℕ) → Seeking s voices k voices k
+seeking-start s voices k = record { rest = refl }
 
-pub seeking-start : (s : List ℕ) (k : ℕ) → Seeking s k afterHead k
-seeking-start s k = record { rest = refl }
+module _ {s : List ℕ} {voices k at before : ℕ} (size : ℕ) (e : size ≡ voiceSize s at) (l : Seeking s voices k at before) where
+  pub seeking-none : size ≡ 0 → nowhere ≡ getD (spansFrom s voices) k nowhere
+  seeking-none z = sym (ap (λ (x : List Span). getD x before nowhere) (spans-none s at size e z)) ∙ l .rest
 
-module _ {s : List ℕ} {k at before : ℕ} (size : ℕ) (e : size ≡ voiceSize s at) (l : Seeking s k at before) where
-  pub seeking-none : size ≡ 0 → Spans s (getD (voicesFrom s afterHead) k []) (record { from = 0; to = 0 })
-  seeking-none z =
-      subst (λ (p : List ℕ). Spans s p (record { from = 0; to = 0 }))
-      (sym (ap (λ (x : List (List ℕ)). getD x before []) (voices-none s at size e z)) ∙ l .rest) (nowhere s)
-
-  pub seeking-found : (size ≡ 0 → ⊥) → before ≡ 0
-      → Spans s (getD (voicesFrom s afterHead) k []) (record { from = at + 6; to = at + 6 + size })
+  pub seeking-found : (size ≡ 0 → ⊥) → before ≡ 0 → spanAt at size ≡ getD (spansFrom s voices) k nowhere
   seeking-found n z =
-      let t = voice-sized s at size e n in
-      let m : at + 6 + size - (at + 6) ≡ size = omega arith in
-      record {
-        ordered = omega arith;
-        within = t .fits;
-        holds =
-            ap (λ (m : ℕ). part s (at + 6) m) m ∙ sym (ap (λ (x : List (List ℕ)). getD x 0 []) (voices-more s at size e n))
-            ∙ ap (λ (m : ℕ). getD (voicesFrom s at) m []) (sym z) ∙ l .rest;
-      }
+      sym (ap (λ (x : List Span). getD x 0 nowhere) (spans-more s at size e n))
+      ∙ ap (λ (m : ℕ). getD (spansFrom s at) m nowhere) (sym z) ∙ l .rest
 
-  pub seeking-on : (size ≡ 0 → ⊥) → (before ≡ 0 → ⊥) → Seeking s k (at + 6 + size) (before - 1)
+  pub seeking-on : (size ≡ 0 → ⊥) → (before ≡ 0 → ⊥) → Seeking s voices k (at + 6 + size) (before - 1)
   seeking-on n z =
       let m : suc (before - 1) ≡ before = omega arith in
       record {
         rest =
-            sym (ap (λ (x : List (List ℕ)). getD x (suc (before - 1)) []) (voices-more s at size e n))
-            ∙ ap (λ (m : ℕ). getD (voicesFrom s at) m []) m ∙ l .rest;
+            sym (ap (λ (x : List Span). getD x (suc (before - 1)) nowhere) (spans-more s at size e n))
+            ∙ ap (λ (m : ℕ). getD (spansFrom s at) m nowhere) m ∙ l .rest;
       }
 
--- the voice blocks of a recording
-pub block-refused : (s : List ℕ) (k : ℕ) (cause : Cause) → walkedOf s ≡ Refused cause → voiceBlockOf s k ≡ []
-unfolding voiceBlockOf payloadsOf
-block-refused s k cause e = ap (λ (w : Walked). getD (ifWhole w (voicesFrom s afterHead) []) k []) e
+-- those of a recording: none of a refused one, of a sound one those after its head
+pub spans-refused : (s : List ℕ) (cause : Cause) → walkedOf s .ending ≡ Refused cause → spansOf s ≡ []
+unfolding spansOf
+spans-refused s cause e = ap (λ (x : Ending). ifSound x (spansFrom s (walkedOf s .walk .voices)) []) e
 
-pub block-whole : (s : List ℕ) (k : ℕ) (h : Heading) → walkedOf s ≡ Whole h → voiceBlockOf s k ≡ getD (voicesFrom s afterHead) k []
-unfolding voiceBlockOf payloadsOf
-block-whole s k h e = ap (λ (w : Walked). getD (ifWhole w (voicesFrom s afterHead) []) k []) e
+pub spans-sound : (s : List ℕ) → walkedOf s .ending ≡ Sound → spansOf s ≡ spansFrom s (walkedOf s .walk .voices)
+unfolding spansOf
+spans-sound s e = ap (λ (x : Ending). ifSound x (spansFrom s (walkedOf s .walk .voices)) []) e
+
+pub payloads-refused : (s : List ℕ) (cause : Cause) → walkedOf s .ending ≡ Refused cause → payloadsOf s ≡ []
+unfolding payloadsOf
+payloads-refused s cause e = ap (map (bytesAt s)) (spans-refused s cause e)
+
+pub payloads-sound : (s : List ℕ) → walkedOf s .ending ≡ Sound → payloadsOf s ≡ voicesFrom s (walkedOf s .walk .voices)
+unfolding payloadsOf voicesFrom
+payloads-sound s e = ap (map (bytesAt s)) (spans-sound s e)
+
+-- the returns of `voice_span`
+pub span-refused : (s : List ℕ) (k : ℕ) (w : Walked) (cause : Cause) → w ≡ walkedOf s → w .ending ≡ Refused cause → nowhere ≡ spanOf s k
+unfolding spanOf
+span-refused s k w cause i e =
+    sym (ap (λ (x : List Span). getD x k nowhere) (spans-refused s cause (ap (λ (x : Walked). x .ending) (sym i) ∙ e)))
+
+pub span-sound : (s : List ℕ) (k : ℕ) (w : Walked) → w ≡ walkedOf s → w .ending ≡ Sound
+    → getD (spansFrom s (w .walk .voices)) k nowhere ≡ spanOf s k
+unfolding spanOf
+span-sound s k w i e =
+    ap (λ (x : Walked). getD (spansFrom s (x .walk .voices)) k nowhere) i
+    ∙ sym (ap (λ (x : List Span). getD x k nowhere) (spans-sound s (ap (λ (x : Walked). x .ending) (sym i) ∙ e)))
+
+-- a place that is answered is within the bytes
+pub record Placed (s : List ℕ) (r : Span) : Type 0 where
+  pub ordered : r .from ≤ r .to
+  pub within : r .to ≤ length s
+
+nowhere-placed : (s : List ℕ) → Placed s nowhere
+nowhere-placed s = record { ordered = omega arith; within = omega arith }
+
+spans-placed : (s : List ℕ) (k at : ℕ) → Placed s (getD (spansFrom s at) k nowhere)
+spans-placed s zero at = go (voiceSize s at) refl (ℕ-discrete (voiceSize s at) 0)
+  where
+    go : (size : ℕ) → size ≡ voiceSize s at → Dec (size ≡ 0) → Placed s (getD (spansFrom s at) 0 nowhere)
+    go size e (yes z) = subst (λ (x : List Span). Placed s (getD x 0 nowhere)) (sym (spans-none s at size e z)) (nowhere-placed s)
+    go size e (no n) =
+        let t = voice-sized s at size e n in
+        subst (λ (x : List Span). Placed s (getD x 0 nowhere)) (sym (spans-more s at size e n))
+        (record { ordered = omega arith; within = t .fits })
+spans-placed s (suc k) at = go (voiceSize s at) refl (ℕ-discrete (voiceSize s at) 0) (λ next. spans-placed s k next)
+  where
+    go : (size : ℕ) → size ≡ voiceSize s at → Dec (size ≡ 0)
+        → ((next : ℕ) → Placed s (getD (spansFrom s next) k nowhere)) → Placed s (getD (spansFrom s at) (suc k) nowhere)
+    go size e (yes z) rest =
+        subst (λ (x : List Span). Placed s (getD x (suc k) nowhere)) (sym (spans-none s at size e z)) (nowhere-placed s)
+    go size e (no n) rest =
+        subst (λ (x : List Span). Placed s (getD x (suc k) nowhere)) (sym (spans-more s at size e n)) (rest (at + 6 + size))
+
+pub span-placed : (s : List ℕ) (k : ℕ) → Placed s (spanOf s k)
+unfolding spanOf
+span-placed s k = go (walkedOf s .ending) refl
+  where
+    go : (x : Ending) → walkedOf s .ending ≡ x → Placed s (getD (spansOf s) k nowhere)
+    go Sound e =
+        subst (λ (x : List Span). Placed s (getD x k nowhere)) (sym (spans-sound s e)) (spans-placed s k (walkedOf s .walk .voices))
+    go (Refused cause) e =
+        subst (λ (x : List Span). Placed s (getD x k nowhere)) (sym (spans-refused s cause e)) (nowhere-placed s)
+
+-- what `voice_block` needs of the place that it was told, and what it returns
+module _ (s : List ℕ) (k : ℕ) (r : Span) (e : r ≡ spanOf s k) where
+  pub told-placed : Placed s r
+  told-placed = subst (Placed s) (sym e) (span-placed s k)
+
+  pub told-bytes : bytesAt s r ≡ voiceBlockOf s k
+  unfolding voiceBlockOf
+  told-bytes = ap (bytesAt s) e
+
+-- the part at the k-th place is the k-th payload
+pub block-payload : (s : List ℕ) (k : ℕ) → voiceBlockOf s k ≡ getD (payloadsOf s) k []
+unfolding voiceBlockOf payloadsOf spanOf
+block-payload s k = sym (List·getD-map (bytesAt s) (spansOf s) k nowhere)

@@ -1,40 +1,33 @@
--- The walk: each step passes bytes, so that it comes to its answer.
+-- The walk: each step passes bytes, so that it comes to its end.
 -- Assumes nothing.
 use mathlib.Core.Path.{_≡_, _∙_, sym, refl, ap, subst}
-use mathlib.Core.Bool.{Bool, true, false, cond}
+use mathlib.Core.Bool.{Bool, true, false, not}
 use mathlib.Core.List.{List}
 use Prim.Native.Nat.{ℕ, suc, _+_, _-_, _*_, _<_, _≤_}
 use native.Mathlib.Omega.{arith}
-use borrow.Author.Tests.{lt-ltb, le-ltb, eq-eqb, ne-eqb, ltb-false}
-use lib.Dec.{eqb, ltb}
+use borrow.Author.Tests.{lt-ltb, le-ltb, le-leb, lt-leb, eq-eqb, ne-eqb, leb-true, ltb-true, eqb-true, not-true}
+use lib.Dec.{eqb, leb, ltb}
 use lib.ListN.{length}
+use Rattle.laws.specs.Unless.{unless}
 use Rattle.laws.proofs.Turns.{turns-once}
+use Rattle.laws.proofs.Chosen.{chosen}
 use Rattle.blocks.specs.Blocks.{blockAt}
-use Rattle.blocks.specs.Walk.{longest, refuse, pastHead, pastVoice, met, stepOf, atStart, onward, walkFrom, walkedOf}
+use Rattle.blocks.specs.Walk.{longest, refuse, pastHead, pastVoice, met, stepOf, atStart}
+use Rattle.blocks.specs.Walk.{stopped, onward, walkFrom, walkedOf}
 use Rattle.blocks.specs.declared.Cause.{Cause}
 use Rattle.blocks.specs.declared.Cause.the-variants.{TooLong, OutOfTurn, EndMissing, WrongCount, Extra}
+use Rattle.blocks.specs.declared.Heading.{Heading}
 use Rattle.blocks.specs.declared.Block.{Block}
 use Rattle.blocks.specs.declared.Block.the-variants.{Head, Voice, End, Broken}
-use Rattle.blocks.specs.declared.Heading.{Heading}
+use Rattle.blocks.specs.declared.Ending.{Ending}
+use Rattle.blocks.specs.declared.Ending.the-variants.{Sound, Refused}
 use Rattle.blocks.specs.declared.Walked.{Walked}
-use Rattle.blocks.specs.declared.Walked.the-variants.{Whole, Refused}
 use Rattle.blocks.specs.declared.Walk.{Walk}
 use Rattle.blocks.specs.declared.Moved.{Moved}
 use Rattle.blocks.specs.declared.Moved.the-variants.{On, Done}
-use Rattle.blocks.proofs.Blocks.{head-told, voice-told, end-told}
+use Rattle.blocks.proofs.Blocks.{head-held, voice-held, end-held}
 
--- where a step takes a walk: further on, within the bytes, and past no more frames than there is room for
-pub record Further (s : List ℕ) (w next : Walk) : Type 0 where
-  pub on : w .at < next .at
-  pub within : next .at ≤ length s
-  pub room : 18 * w .frames ≤ w .at → 18 * next .frames ≤ next .at
-
--- a step that goes on passed a head that was in its turn, or a voice block that was
-pub data Passed (s : List ℕ) (w : Walk) : Walk → Type 0 where
-  passed-head : (unit number : ℕ) → blockAt s (w .at) ≡ Head unit number → w .headed ≡ false → Passed s w (pastHead w unit number)
-  passed-voice : (size : ℕ) → blockAt s (w .at) ≡ Voice size → w .headed ≡ true → Passed s w (pastVoice w size)
-
--- the returns of `advance`, by what stands at the walk's place
+-- the returns of `advance` and `end_walk`, by what stands at the walk's place
 module _ (s : List ℕ) (w : Walk) where
   step-met : (b : Block) → blockAt s (w .at) ≡ b → stepOf s w ≡ met s w b
   unfolding stepOf
@@ -43,110 +36,118 @@ module _ (s : List ℕ) (w : Walk) where
   pub step-broken : (cause : Cause) → blockAt s (w .at) ≡ Broken cause → refuse cause ≡ stepOf s w
   step-broken cause e = sym (step-met (Broken cause) e)
 
-  pub second-head : (unit number : ℕ) → blockAt s (w .at) ≡ Head unit number → w .headed ≡ true → refuse (OutOfTurn (w .at)) ≡ stepOf s w
-  second-head unit number e h = sym (step-met (Head unit number) e ∙ rw h)
+  pub second-head : (h : Heading) → blockAt s (w .at) ≡ Head h → w .headed ≡ true → refuse (OutOfTurn (w .at)) ≡ stepOf s w
+  second-head h e t = sym (step-met (Head h) e ∙ rw t)
 
-  pub first-head : (unit number : ℕ) → blockAt s (w .at) ≡ Head unit number → w .headed ≡ false → On (pastHead w unit number) ≡ stepOf s w
-  first-head unit number e h = sym (step-met (Head unit number) e ∙ rw h)
+  pub first-head : (h : Heading) → blockAt s (w .at) ≡ Head h → w .headed ≡ false → On (pastHead w h) ≡ stepOf s w
+  first-head h e t = sym (step-met (Head h) e ∙ rw t)
 
   pub voice-first : (size : ℕ) → blockAt s (w .at) ≡ Voice size → w .headed ≡ false → refuse (OutOfTurn (w .at)) ≡ stepOf s w
-  voice-first size e h = sym (step-met (Voice size) e ∙ rw h)
+  voice-first size e t = sym (step-met (Voice size) e ∙ rw t)
 
   pub voice-passed : (size : ℕ) → blockAt s (w .at) ≡ Voice size → w .headed ≡ true → On (pastVoice w size) ≡ stepOf s w
-  voice-passed size e h = sym (step-met (Voice size) e ∙ ap (λ (b : Bool). cond b (On (pastVoice w size)) (refuse (OutOfTurn (w .at)))) h)
+  voice-passed size e t =
+      sym (step-met (Voice size) e ∙ ap (λ (b : Bool). unless b (refuse (OutOfTurn (w .at))) (On (pastVoice w size))) t)
 
-  pub end-early : (told : ℕ) → blockAt s (w .at) ≡ End told → w .frames ≡ 0 → refuse (OutOfTurn (w .at)) ≡ stepOf s w
-  end-early told e z = sym (step-met (End told) e ∙ rw (eq-eqb (w .frames) 0 z))
+  module _ (told : ℕ) (e : blockAt s (w .at) ≡ End told) where
+    pub end-early : w .frames ≡ 0 → refuse (OutOfTurn (w .at)) ≡ stepOf s w
+    end-early z = sym (step-met (End told) e ∙ rw (le-ltb 0 (w .frames) (omega arith)))
 
-  pub wrong-count : (told : ℕ) → blockAt s (w .at) ≡ End told → (w .frames ≡ 0 → ⊥) → (told ≡ w .frames → ⊥)
-      → refuse (WrongCount (w .at)) ≡ stepOf s w
-  wrong-count told e z n = sym (step-met (End told) e ∙ rw (ne-eqb (w .frames) 0 z, ne-eqb told (w .frames) n))
+    module _ (some : w .frames ≡ 0 → ⊥) where
+      pub wrong-count : (told ≡ w .frames → ⊥) → refuse (WrongCount (w .at)) ≡ stepOf s w
+      wrong-count n = sym (step-met (End told) e ∙ rw (lt-ltb 0 (w .frames) (omega (arith, some)), ne-eqb told (w .frames) n))
 
-  pub extra-bytes : (told : ℕ) → blockAt s (w .at) ≡ End told → (w .frames ≡ 0 → ⊥) → told ≡ w .frames
-      → (length s ≡ w .at + 10 → ⊥) → refuse (Extra (w .at + 10)) ≡ stepOf s w
-  extra-bytes told e z n x =
-      sym (step-met (End told) e ∙ rw (ne-eqb (w .frames) 0 z, eq-eqb told (w .frames) n, ne-eqb (length s) (w .at + 10) x))
+      pub extra-bytes : told ≡ w .frames → (length s ≡ w .at + 6 + 4 → ⊥) → refuse (Extra (w .at + 6 + 4)) ≡ stepOf s w
+      extra-bytes n x =
+          sym
+          (step-met (End told) e
+          ∙ rw (lt-ltb 0 (w .frames) (omega (arith, some)), eq-eqb told (w .frames) n, ne-eqb (length s) (w .at + 6 + 4) x))
 
-  pub end-right : (told : ℕ) → blockAt s (w .at) ≡ End told → (w .frames ≡ 0 → ⊥) → told ≡ w .frames → length s ≡ w .at + 10
-      → Done (Whole (record { unit = w .unit; number = w .number; frames = w .frames })) ≡ stepOf s w
-  end-right told e z n x =
-      sym (step-met (End told) e ∙ rw (ne-eqb (w .frames) 0 z, eq-eqb told (w .frames) n, eq-eqb (length s) (w .at + 10) x))
+      pub end-right : told ≡ w .frames → length s ≡ w .at + 6 + 4 → Done Sound ≡ stepOf s w
+      end-right n x =
+          sym
+          (step-met (End told) e
+          ∙ rw (lt-ltb 0 (w .frames) (omega (arith, some)), eq-eqb told (w .frames) n, eq-eqb (length s) (w .at + 6 + 4) x))
 
   -- the bounds that the code of a step needs
-  pub head-room : (unit number : ℕ) → blockAt s (w .at) ≡ Head unit number → w .at + 14 ≤ length s
-  head-room unit number e = let t = head-told s (w .at) unit number e in omega (arith, t .0 .fits)
+  pub head-room : (h : Heading) → blockAt s (w .at) ≡ Head h → w .at + 6 + 8 ≤ length s
+  head-room h e = head-held s (w .at) h e .0 .fits
 
   pub voice-room : (size : ℕ) → blockAt s (w .at) ≡ Voice size → w .at + 6 + size ≤ length s
-  voice-room size e = voice-told s (w .at) size e .0 .fits
+  voice-room size e = voice-held s (w .at) size e .0 .fits
 
-  pub end-room : (told : ℕ) → blockAt s (w .at) ≡ End told → w .at + 10 ≤ length s
-  end-room told e = let t = end-told s (w .at) told e in omega (arith, t .0 .fits)
+  pub end-room : (told : ℕ) → blockAt s (w .at) ≡ End told → w .at + 6 + 4 ≤ length s
+  end-room told e = end-held s (w .at) told e .0 .fits
 
--- what a step that goes on has passed
-passed : (s : List ℕ) (w next : Walk) (b : Block) → blockAt s (w .at) ≡ b → met s w b ≡ On next → Passed s w next
-passed s w next (Head unit number) e o = turn (w .headed) refl o
-  where
-    turn : (h : Bool) → w .headed ≡ h → cond h (refuse (OutOfTurn (w .at))) (On (pastHead w unit number)) ≡ On next → Passed s w next
-    turn true h o = absurd (let z : _≡_ {A = ℕ} 0 1 = cc in omega arith)
-    turn false h o = let n : pastHead w unit number ≡ next = cc in
-        subst (λ (x : Walk). Passed s w x) n (passed-head unit number e h)
-passed s w next (Voice size) e o = turn (w .headed) refl o
-  where
-    turn : (h : Bool) → w .headed ≡ h → cond h (On (pastVoice w size)) (refuse (OutOfTurn (w .at))) ≡ On next → Passed s w next
-    turn true h o = let n : pastVoice w size ≡ next = cc in
-        subst (λ (x : Walk). Passed s w x) n (passed-voice size e h)
-    turn false h o = absurd (let z : _≡_ {A = ℕ} 0 1 = cc in omega arith)
-passed s w next (End told) e o = absurd (done (eqb (w .frames) 0) (eqb told (w .frames)) (eqb (length s) (w .at + 10)) o)
-  where
-    done : (a b c : Bool)
-        → cond a (refuse (OutOfTurn (w .at)))
-        (cond b
-        (cond c (Done (Whole (record { unit = w .unit; number = w .number; frames = w .frames }))) (refuse (Extra (w .at + 10))))
-        (refuse (WrongCount (w .at))))
-        ≡ On next
-        → ⊥
-    done true b c o = let z : _≡_ {A = ℕ} 0 1 = cc in omega arith
-    done false false c o = let z : _≡_ {A = ℕ} 0 1 = cc in omega arith
-    done false true true o = let z : _≡_ {A = ℕ} 0 1 = cc in omega arith
-    done false true false o = let z : _≡_ {A = ℕ} 0 1 = cc in omega arith
-passed s w next (Broken cause) e o = absurd (let z : _≡_ {A = ℕ} 0 1 = cc in omega arith)
+-- what a step saw: a head or a voice block in its turn, an end block that was right, or a refusal
+pub data Stepped (s : List ℕ) (w : Walk) : Moved → Type 0 where
+  passed-head : (h : Heading) → blockAt s (w .at) ≡ Head h → w .headed ≡ false → Stepped s w (On (pastHead w h))
+  passed-voice : (size : ℕ) → blockAt s (w .at) ≡ Voice size → w .headed ≡ true → Stepped s w (On (pastVoice w size))
+  ended : blockAt s (w .at) ≡ End (w .frames) → 0 < w .frames → length s ≡ w .at + 6 + 4 → Stepped s w (Done Sound)
+  refused : (cause : Cause) → Stepped s w (refuse cause)
 
-pub step-passed : (s : List ℕ) (w next : Walk) → stepOf s w ≡ On next → Passed s w next
+pub stepped : (s : List ℕ) (w : Walk) → Stepped s w (stepOf s w)
 unfolding stepOf
-step-passed s w next o = passed s w next (blockAt s (w .at)) refl o
+stepped s w = go (blockAt s (w .at)) refl
+  where
+    go : (b : Block) → blockAt s (w .at) ≡ b → Stepped s w (met s w b)
+    go (Head h) e =
+        chosen (Stepped s w) (not (w .headed)) (λ t. passed-head h e (not-true (w .headed) t)) (λ t. refused (OutOfTurn (w .at)))
+    go (Voice size) e = chosen (Stepped s w) (w .headed) (λ t. passed-voice size e t) (λ t. refused (OutOfTurn (w .at)))
+    go (End told) e =
+        chosen (Stepped s w) (ltb 0 (w .frames)) (λ a.
+        chosen (Stepped s w) (eqb told (w .frames)) (λ b.
+        chosen (Stepped s w) (eqb (length s) (w .at + 6 + 4)) (λ c.
+        ended (e ∙ ap End (eqb-true told (w .frames) b)) (ltb-true 0 (w .frames) a) (eqb-true (length s) (w .at + 6 + 4) c))
+        (λ c. refused (Extra (w .at + 6 + 4)))) (λ b. refused (WrongCount (w .at)))) (λ a. refused (OutOfTurn (w .at)))
+    go (Broken cause) e = refused cause
 
-further : (s : List ℕ) (w next : Walk) → Passed s w next → Further s w next
-further s w _ (passed-head unit number e h) =
-    let r = head-room s w unit number e in
-    record { on = omega arith; within = r; room = λ z. omega arith }
-further s w _ (passed-voice size e h) =
-    let r = voice-room s w size e in
-    let t = voice-told s (w .at) size e in
-    record { on = omega arith; within = r; room = λ z. omega (arith, t .1, t .2) }
+-- where a step takes a walk: further on, within the bytes, and past no more frames than there is room for
+pub record Further (s : List ℕ) (w next : Walk) : Type 0 where
+  pub on : w .at < next .at
+  pub within : next .at ≤ length s
+  pub room : 18 * w .frames ≤ w .at → 18 * next .frames ≤ next .at
 
 pub step-further : (s : List ℕ) (w next : Walk) → stepOf s w ≡ On next → Further s w next
-step-further s w next o = further s w next (step-passed s w next o)
+step-further s w next o = go (stepOf s w) (stepped s w) o
+  where
+    -- of a step that goes on, this is so; of one that ends, nothing is asked
+    Onward : Moved → Type 0
+    Onward (On next) = Further s w next
+    Onward (Done ending) = Unit
+
+    of : (m : Moved) → Stepped s w m → Onward m
+    of _ (passed-head h e t) = let r = head-room s w h e in record { on = omega arith; within = r; room = λ z. omega arith }
+    of _ (passed-voice size e t) =
+        let r = voice-held s (w .at) size e in
+        record { on = omega arith; within = r .0 .fits; room = λ z. omega (arith, r .1, r .2) }
+    of _ (ended e f l) = tt
+    of _ (refused cause) = tt
+
+    go : (m : Moved) → Stepped s w m → m ≡ On next → Further s w next
+    go m t o = subst Onward o (of m t)
 
 -- the walk is what it does in one step: the turns never run out
-pub walk-step : (s : List ℕ) (w : Walk) → walkFrom s w ≡ onward (walkFrom s) (stepOf s w)
+pub walk-step : (s : List ℕ) (w : Walk) → walkFrom s w ≡ onward (walkFrom s) w (stepOf s w)
 unfolding walkFrom
 walk-step s w =
-    turns-once (Refused (EndMissing (length s))) (λ further w. onward further (stepOf s w)) (λ w. length s - w .at) falls (suc (length s)) w (omega arith)
+    turns-once (stopped atStart (Refused (EndMissing (length s)))) (λ further w. onward further w (stepOf s w)) (λ w. length s - w .at)
+    falls (suc (length s)) w (omega arith)
   where
-    go : (g h : Walk → Walked) (x : Walk) (m : Moved) → stepOf s x ≡ m → ((y : Walk) → length s - y .at < length s - x .at → g y ≡ h y)
-        → onward g m ≡ onward h m
+    go : (g h : Walk → Walked) (x : Walk) (m : Moved) → stepOf s x ≡ m
+        → ((y : Walk) → length s - y .at < length s - x .at → g y ≡ h y) → onward g x m ≡ onward h x m
     go g h x (On y) e same = let f = step-further s x y e in same y (omega (arith, f .on, f .within))
-    go g h x (Done answer) e same = refl
+    go g h x (Done ending) e same = refl
 
     falls : (g h : Walk → Walked) (x : Walk) → ((y : Walk) → length s - y .at < length s - x .at → g y ≡ h y)
-        → onward g (stepOf s x) ≡ onward h (stepOf s x)
+        → onward g x (stepOf s x) ≡ onward h x (stepOf s x)
     falls g h x same = go g h x (stepOf s x) refl same
 
 pub walk-on : (s : List ℕ) (w next : Walk) → stepOf s w ≡ On next → walkFrom s w ≡ walkFrom s next
-walk-on s w next e = walk-step s w ∙ ap (onward (walkFrom s)) e
+walk-on s w next e = walk-step s w ∙ ap (onward (walkFrom s) w) e
 
-pub walk-done : (s : List ℕ) (w : Walk) (answer : Walked) → stepOf s w ≡ Done answer → walkFrom s w ≡ answer
-walk-done s w answer e = walk-step s w ∙ ap (onward (walkFrom s)) e
+pub walk-done : (s : List ℕ) (w : Walk) (ending : Ending) → stepOf s w ≡ Done ending → walkFrom s w ≡ stopped w ending
+walk-done s w ending e = walk-step s w ∙ ap (onward (walkFrom s) w) e
 
 -- the loop of `walk_through`: what is left to walk comes to the answer of the whole
 pub record Walking (s : List ℕ) (w : Walk) : Type 0 where
@@ -165,21 +166,22 @@ walking-on {s} {w} next k e =
 -- short enough, the whole is the walk from the start
 pub walked-from : (s : List ℕ) → length s ≤ longest → walkedOf s ≡ walkFrom s atStart
 unfolding walkedOf
-walked-from s l = rw (le-ltb longest (length s) l)
+walked-from s l = rw (le-leb (length s) longest l)
 
-pub walking-done : {s : List ℕ} {w : Walk} (answer : Walked) → length s ≤ longest → Walking s w → stepOf s w ≡ Done answer
-    → answer ≡ walkedOf s
-walking-done {s} {w} answer l k e = sym (walk-done s w answer e) ∙ k .rest ∙ sym (walked-from s l)
+pub walking-done : {s : List ℕ} {w : Walk} (ending : Ending) → length s ≤ longest → Walking s w → stepOf s w ≡ Done ending
+    → stopped w ending ≡ walkedOf s
+walking-done {s} {w} ending l k e = sym (walk-done s w ending e) ∙ k .rest ∙ sym (walked-from s l)
 
-pub too-long : (s : List ℕ) → longest < length s → Refused TooLong ≡ walkedOf s
+pub too-long : (s : List ℕ) → longest < length s → stopped atStart (Refused TooLong) ≡ walkedOf s
 unfolding walkedOf
-too-long s h = rw (lt-ltb longest (length s) h)
+too-long s h = rw (lt-leb (length s) longest h)
 
--- a recording that is whole is short enough
-pub whole-short : (s : List ℕ) (h : Heading) → walkedOf s ≡ Whole h → length s ≤ longest
+-- a recording that is sound is short enough
+pub sound-short : (s : List ℕ) → walkedOf s .ending ≡ Sound → length s ≤ longest
 unfolding walkedOf
-whole-short s h e = go (ltb longest (length s)) refl e
+sound-short s e = go (leb (length s) longest) refl e
   where
-    go : (b : Bool) → ltb longest (length s) ≡ b → cond b (Refused TooLong) (walkFrom s atStart) ≡ Whole h → length s ≤ longest
-    go true t e = absurd (let z : _≡_ {A = ℕ} 0 1 = cc in omega arith)
-    go false t e = ltb-false longest (length s) t
+    go : (b : Bool) → leb (length s) longest ≡ b
+        → unless b (stopped atStart (Refused TooLong)) (walkFrom s atStart) .ending ≡ Sound → length s ≤ longest
+    go true t e = leb-true (length s) longest t
+    go false t e = absurd (let z : _≡_ {A = ℕ} 0 1 = cc in omega arith)

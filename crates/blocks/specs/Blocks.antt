@@ -1,12 +1,14 @@
 -- Blocks (document 01, "Recordings"): a payload length (4 bytes, little-endian), a kind (2 bytes), the payload.
-use mathlib.Core.Bool.{cond}
+use mathlib.Core.Bool.{Bool, true, cond}
 use mathlib.Core.List.{List}
-use Prim.Native.Nat.{ℕ, _+_, _-_, _%_}
+use Prim.Native.Nat.{ℕ, _+_, _%_}
 use lib.Dec.{eqb, leb, ltb}
 use lib.ListN.{length, take, drop}
 use Rattle.laws.specs.Bytes.{pairAt, wordAt}
 use Rattle.laws.specs.Table.{both}
+use Rattle.laws.specs.Unless.{unless}
 use Rattle.blocks.specs.declared.Cause.the-variants.{HeaderCut, PastEnd, WrongSize, UnknownKind, EndMissing}
+use Rattle.blocks.specs.declared.Heading.{Heading}
 use Rattle.blocks.specs.declared.Block.{Block}
 use Rattle.blocks.specs.declared.Block.the-variants.{Head, Voice, End, Broken}
 
@@ -21,17 +23,28 @@ sizeAt s at = wordAt s at
 abbrev pub kindAt : List ℕ → ℕ → ℕ
 kindAt s at = pairAt s (at + 4)
 
--- by kind and size. Kind 1, head: 8 bytes, unit and recording number, 4 each. Kind 2, voice: a positive multiple of 18.
--- Kind 3, end: 4 bytes, the number of frames.
-abbrev pub ofKind : List ℕ → ℕ → ℕ → ℕ → Block
-ofKind s at kind size =
-    cond (eqb kind 1) (cond (eqb size 8) (Head (wordAt s (at + 6)) (wordAt s (at + 10))) (Broken (WrongSize at)))
-    (cond (eqb kind 2) (cond (both (ltb 0 size) (eqb (size % 18) 0)) (Voice size) (Broken (WrongSize at)))
-    (cond (eqb kind 3) (cond (eqb size 4) (End (wordAt s (at + 6))) (Broken (WrongSize at))) (Broken (UnknownKind at))))
+-- Kind 1, head: 8 bytes. Kind 2, voice: a positive multiple of 18. Kind 3, end: 4 bytes. Another kind has no wrong size.
+unfoldable pub rightSize : ℕ → ℕ → Bool
+rightSize kind size =
+    cond (eqb kind 1) (eqb size 8)
+    (cond (eqb kind 2) (both (ltb 0 size) (eqb (size % 18) 0))
+    (cond (eqb kind 3) (eqb size 4) true))
+
+-- a head holds unit and recording number, 4 bytes each; an end the number of frames
+abbrev pub headingAt : List ℕ → ℕ → Heading
+headingAt s at = record { unit = wordAt s (at + 6); number = wordAt s (at + 10) }
+
+abbrev pub ofKind : List ℕ → ℕ → ℕ → Block
+ofKind s at kind =
+    cond (eqb kind 1) (Head (headingAt s at))
+    (cond (eqb kind 2) (Voice (sizeAt s at))
+    (cond (eqb kind 3) (End (wordAt s (at + 6))) (Broken (UnknownKind at))))
 
 -- what stands at a place: a block, or why there is none; of the refusals that one block can have by itself, 7 before 8
 unfoldable pub blockAt : List ℕ → ℕ → Block
 blockAt s at =
-    cond (leb (length s) at) (Broken (EndMissing (length s)))
-    (cond (ltb (length s - at) 6) (Broken (HeaderCut at))
-    (cond (ltb (length s - at - 6) (sizeAt s at)) (Broken (PastEnd at)) (ofKind s at (kindAt s at) (sizeAt s at))))
+    unless (ltb at (length s)) (Broken (EndMissing (length s)))
+    (unless (leb (at + 6) (length s)) (Broken (HeaderCut at))
+    (unless (leb (at + 6 + sizeAt s at) (length s)) (Broken (PastEnd at))
+    (unless (rightSize (kindAt s at) (sizeAt s at)) (Broken (WrongSize at))
+    (ofKind s at (kindAt s at)))))

@@ -1,11 +1,11 @@
 -- The voice blocks of a recording and the frames in them.
-use mathlib.Core.Path.{_≡_}
+use mathlib.Core.List.{List, [], _∷_, _++_, map}
+use Prim.Native.Nat.{ℕ, zero, suc, _+_, _-_, _/_}
 use mathlib.Core.Bool.{cond}
-use mathlib.Core.List.{List, [], _∷_, _++_}
-use Prim.Native.Nat.{ℕ, zero, suc, _+_, _-_, _/_, _≤_}
-use lib.Dec.{eqb, ltb}
+use lib.Dec.{eqb, leb}
 use lib.ListN.{length, getD, take, drop}
 use Rattle.laws.specs.Turns.{turns}
+use Rattle.laws.specs.Unless.{unless}
 use Rattle.blocks.specs.Blocks.{blockAt, part}
 use Rattle.blocks.specs.Walk.{walkedOf}
 use Rattle.blocks.specs.declared.Block.{Block}
@@ -13,12 +13,12 @@ use Rattle.blocks.specs.declared.Block.the-variants.{Head, Voice, End, B
 use Rattle.blocks.specs.declared.Found.{Found}
 use Rattle.blocks.specs.declared.Found.the-variants.{At, Nothing}
 use Rattle.blocks.specs.declared.Span.{Span}
-use Rattle.blocks.specs.declared.Walked.{Walked}
-use Rattle.blocks.specs.declared.Walked.the-variants.{Whole, Refused}
+use Rattle.blocks.specs.declared.Ending.{Ending}
+use Rattle.blocks.specs.declared.Ending.the-variants.{Sound, Refused}
 
 -- the payload's size of the voice block at a place; 0 where there is none
 abbrev pub voiceIn : Block → ℕ
-voiceIn (Head unit number) = 0
+voiceIn (Head heading) = 0
 voiceIn (Voice size) = size
 voiceIn (End told) = 0
 voiceIn (Broken cause) = 0
@@ -26,33 +26,48 @@ voiceIn (Broken cause) = 0
 unfoldable pub voiceSize : List ℕ → ℕ → ℕ
 voiceSize s at = voiceIn (blockAt s at)
 
--- the payloads of the voice blocks from a place on, one block after the other
-abbrev pub voicesWith : List ℕ → (ℕ → List (List ℕ)) → ℕ → ℕ → List (List ℕ)
-voicesWith s further at size = cond (eqb size 0) [] (part s (at + 6) size ∷ further (at + 6 + size))
+-- where the payloads of the voice blocks stand, from a place on, one block after the other
+abbrev pub spanAt : ℕ → ℕ → Span
+spanAt at size = record { from = at + 6; to = at + 6 + size }
+
+abbrev pub spansWith : (ℕ → List Span) → ℕ → ℕ → List Span
+spansWith further at size = cond (eqb size 0) [] (spanAt at size ∷ further (at + 6 + size))
+
+unfoldable pub spansFrom : List ℕ → ℕ → List Span
+spansFrom s = turns [] (λ further at. spansWith further at (voiceSize s at)) (suc (length s))
+
+-- those of a recording: a refused one has none
+abbrev pub ifSound : {A : Type 0} → Ending → A → A → A
+ifSound Sound a b = a
+ifSound (Refused cause) a b = b
+
+unfoldable pub spansOf : List ℕ → List Span
+spansOf s = ifSound (walkedOf s .ending) (spansFrom s (walkedOf s .walk .voices)) []
+
+-- that of the k-th voice block, counted from 0; from 0 to 0 says refused or no such block
+abbrev pub nowhere : Span
+nowhere = record { from = 0; to = 0 }
+
+unfoldable pub spanOf : List ℕ → ℕ → Span
+spanOf s k = getD (spansOf s) k nowhere
+
+-- the bytes that stand there
+abbrev pub bytesAt : List ℕ → Span → List ℕ
+bytesAt s r = part s (r .from) (r .to - r .from)
 
 unfoldable pub voicesFrom : List ℕ → ℕ → List (List ℕ)
-voicesFrom s = turns [] (λ further at. voicesWith s further at (voiceSize s at)) (suc (length s))
-
--- the head is the first fourteen bytes of a recording; the voice blocks follow it. A refused recording has none.
-abbrev pub afterHead : ℕ
-afterHead = 14
-
-abbrev pub ifWhole : {A : Type 0} → Walked → A → A → A
-ifWhole (Whole heading) a b = a
-ifWhole (Refused cause) a b = b
+voicesFrom s at = map (bytesAt s) (spansFrom s at)
 
 unfoldable pub payloadsOf : List ℕ → List (List ℕ)
-payloadsOf s = ifWhole (walkedOf s) (voicesFrom s afterHead) []
+payloadsOf s = map (bytesAt s) (spansOf s)
 
--- the payload of the k-th voice block, counted from 0; the empty part says refused or no such block
+-- the payload of the k-th voice block; the empty part says refused or no such block
 unfoldable pub voiceBlockOf : List ℕ → ℕ → List ℕ
-voiceBlockOf s k = getD (payloadsOf s) k []
+voiceBlockOf s k = bytesAt s (spanOf s k)
 
--- the part p of s stands from one place to another
-pub record Spans (s p : List ℕ) (r : Span) : Type 0 where
-  pub ordered : r .from ≤ r .to
-  pub within : r .to ≤ length s
-  pub holds : part s (r .from) (r .to - r .from) ≡ p
+-- a place in the bytes that a reference points to: in the same buffer, so many bytes on
+abbrev pub placeIn : ℕ × ℕ → ℕ → ℕ × ℕ
+placeIn p n = (p .0, n + p .1)
 
 -- a payload cut into its frames of eighteen bytes
 unfoldable pub cut : ℕ → List ℕ → List (List ℕ)
@@ -75,7 +90,8 @@ framesOf s = framesIn (payloadsOf s)
 unfoldable pub foundAt : List ℕ → ℕ → ℕ → Found
 foundAt s at left =
     cond (eqb left 0) (cond (eqb (voiceSize s at) 0) Nothing (At (at + 6) (voiceSize s at - 18)))
-    (cond (ltb left 18) Nothing (cond (ltb (length s) (at + 18)) Nothing (At at (left - 18))))
+    (unless (leb 18 left) Nothing
+    (unless (leb (at + 18) (length s)) Nothing (At at (left - 18))))
 
 -- the frames found one after the other
 abbrev pub framesWith : List ℕ → (ℕ × ℕ → List (List ℕ)) → Found → List (List ℕ)
@@ -83,4 +99,5 @@ framesWith s further (At first rest) = part s first 18 ∷ further (first + 18, 
 framesWith s further Nothing = []
 
 unfoldable pub framesFrom : List ℕ → ℕ → ℕ → List (List ℕ)
-framesFrom s at left = turns [] (λ further p. framesWith s further (foundAt s (p .0) (p .1))) (suc (length s)) (at, left)
+framesFrom s at left =
+    turns [] (λ further p. framesWith s further (foundAt s (p .0) (p .1))) (suc (length s)) (at, left)

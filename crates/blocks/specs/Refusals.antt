@@ -2,9 +2,13 @@
 use mathlib.Core.List.{List, [], _∷_}
 use Prim.Native.Nat.{ℕ}
 use Rattle.blocks.specs.declared.Cause.{Cause}
+use Rattle.blocks.specs.declared.Cause.the-variants.{TooLong, HeaderCut, PastEnd, WrongSize, UnknownKind}
+use Rattle.blocks.specs.declared.Cause.the-variants.{OutOfTurn, EndMissing, WrongCount, Extra}
+use Rattle.blocks.specs.declared.Told.{Told}
+use Rattle.blocks.specs.declared.Told.the-variants.{Nothing, Place}
+use Rattle.blocks.specs.declared.Ending.{Ending}
+use Rattle.blocks.specs.declared.Ending.the-variants.{Sound, Refused}
 use Rattle.blocks.specs.declared.Walked.{Walked}
-use Rattle.blocks.specs.declared.Walked.the-variants.{Whole, Refused}
-use Rattle.blocks.specs.declared.Cause.the-variants.{TooLong, HeaderCut, PastEnd, WrongSize, UnknownKind, OutOfTurn, EndMissing, WrongCount, Extra}
 
 abbrev pub refusalOf : Cause → ℕ
 refusalOf TooLong = 1
@@ -17,22 +21,36 @@ refusalOf (EndMissing p) = 8
 refusalOf (WrongCount p) = 8
 refusalOf (Extra p) = 8
 
+abbrev pub toldOf : Cause → Told
+toldOf TooLong = Nothing
+toldOf (HeaderCut p) = Place p
+toldOf (PastEnd p) = Place p
+toldOf (WrongSize p) = Place p
+toldOf (UnknownKind p) = Place p
+toldOf (OutOfTurn p) = Place p
+toldOf (EndMissing p) = Place p
+toldOf (WrongCount p) = Place p
+toldOf (Extra p) = Place p
+
+-- the numbers that are told
+abbrev pub numbersTold : Told → List ℕ
+numbersTold Nothing = []
+numbersTold (Place p) = p ∷ []
+
 abbrev pub tellsOf : Cause → List ℕ
-tellsOf TooLong = []
-tellsOf (HeaderCut p) = p ∷ []
-tellsOf (PastEnd p) = p ∷ []
-tellsOf (WrongSize p) = p ∷ []
-tellsOf (UnknownKind p) = p ∷ []
-tellsOf (OutOfTurn p) = p ∷ []
-tellsOf (EndMissing p) = p ∷ []
-tellsOf (WrongCount p) = p ∷ []
-tellsOf (Extra p) = p ∷ []
+tellsOf cause = numbersTold (toldOf cause)
 
 -- of an answer; 0 is no refusal
+abbrev pub endingRefusal : Ending → ℕ
+endingRefusal Sound = 0
+endingRefusal (Refused cause) = refusalOf cause
+
+abbrev pub endingTells : Ending → List ℕ
+endingTells Sound = []
+endingTells (Refused cause) = tellsOf cause
+
 abbrev pub walkedRefusal : Walked → ℕ
-walkedRefusal (Whole heading) = 0
-walkedRefusal (Refused cause) = refusalOf cause
+walkedRefusal walked = endingRefusal (walked .ending)
 
 abbrev pub walkedTells : Walked → List ℕ
-walkedTells (Whole heading) = []
-walkedTells (Refused cause) = tellsOf cause
+walkedTells walked = endingTells (walked .ending)

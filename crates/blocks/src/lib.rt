@@ -1,13 +1,14 @@
 // The blocks of a recording, walked one after the other to an answer; its voice blocks, and where the frames in them stand.
 // A walk comes to a place of the bytes and knows what it has passed; what stands there takes it on or ends it.
+ghost use denote.Ref.{ptr};
 ghost use mathlib.Core.Path.{_≡_};
-ghost use mathlib.Core.List.{[]};
 ghost use Prim.Native.Nat.{_+_, _-_, _*_, _≤_, _<_};
 ghost use lib.ListN.{length, getD};
 ghost use Rattle.laws.specs.Bytes.{pairAt, wordAt};
-ghost use Rattle.blocks.specs.Blocks.{blockAt};
+ghost use Rattle.blocks.specs.Refusals.{refusalOf, toldOf};
+ghost use Rattle.blocks.specs.Blocks.{rightSize, blockAt};
 ghost use Rattle.blocks.specs.Walk.{longest, stepOf, walkedOf};
-ghost use Rattle.blocks.specs.Frames.{voiceSize, voicesFrom, afterHead, voiceBlockOf, Spans, foundAt};
+ghost use Rattle.blocks.specs.Frames.{voiceSize, spansFrom, nowhere, spanOf, voiceBlockOf, placeIn, foundAt};
 ghost use Rattle.blocks.specs.declared.Block.the-variants.{End};
 ghost use Rattle.blocks.specs.declared.Moved.the-variants.{Done};
 
@@ -24,41 +25,53 @@ pub enum Cause {
     Extra(usize),
 }
 
-// What stands at a place: a head with unit and recording number, a voice block with its payload's size, an end with the number
-// that it tells, or why there is no block.
+// What a refusal tells.
+pub enum Told {
+    Nothing,
+    Place(usize),
+}
+
+// What a head holds.
+pub struct Heading {
+    pub unit: u32,
+    pub number: u32,
+}
+
+// What stands at a place: a head, a voice block with its payload's size, an end with the number that it tells, or why there is
+// no block.
 pub enum Block {
-    Head(u32, u32),
+    Head(Heading),
     Voice(usize),
     End(u32),
     Broken(Cause),
 }
 
-// What a sound recording's blocks tell: unit and recording number, and how many frames.
-pub struct Heading {
-    pub unit: u32,
-    pub number: u32,
-    pub frames: u32,
-}
-
-// What the blocks of a recording come to.
-pub enum Walked {
-    Whole(Heading),
-    Refused(Cause),
-}
-
-// A walk before the block at `at`: whether the head was passed and what it told, and how many frames were passed.
+// A walk before the block at `at`: whether the head was passed, what it held and where the voice blocks begin after it, and how
+// many frames were passed.
 pub struct Walk {
     pub at: usize,
     pub headed: bool,
-    pub unit: u32,
-    pub number: u32,
+    pub heading: Heading,
+    pub voices: usize,
     pub frames: u32,
 }
 
-// A step of a walk: past a block, or to the answer.
+// How a walk ends.
+pub enum Ending {
+    Sound,
+    Refused(Cause),
+}
+
+// What the blocks of a recording come to: the walk before the block at which it ends, and how it ends there.
+pub struct Walked {
+    pub walk: Walk,
+    pub ending: Ending,
+}
+
+// A step of a walk: past a block, or to the end.
 pub enum Moved {
     On(Walk),
-    Done(Walked),
+    Done(Ending),
 }
 
 // A part of the bytes, from its first to the one after its last.
@@ -71,6 +84,40 @@ pub struct Span {
 pub enum Found {
     At(usize, usize),
     Nothing,
+}
+
+// The number of a refusal.
+pub fn refusal_number(cause: Cause) -> u32
+    ensures { λ r. ⌜ r ≡ refusalOf cause ⌝ }
+{
+    match cause {
+        Cause::TooLong => 1,
+        Cause::HeaderCut(_) => 7,
+        Cause::PastEnd(_) => 7,
+        Cause::WrongSize(_) => 7,
+        Cause::UnknownKind(_) => 8,
+        Cause::OutOfTurn(_) => 8,
+        Cause::EndMissing(_) => 8,
+        Cause::WrongCount(_) => 8,
+        Cause::Extra(_) => 8,
+    }
+}
+
+// What a refusal tells beside its number.
+pub fn tells(cause: Cause) -> Told
+    ensures { λ r. ⌜ r ≡ toldOf cause ⌝ }
+{
+    match cause {
+        Cause::TooLong => Told::Nothing,
+        Cause::HeaderCut(p) => Told::Place(p),
+        Cause::PastEnd(p) => Told::Place(p),
+        Cause::WrongSize(p) => Told::Place(p),
+        Cause::UnknownKind(p) => Told::Place(p),
+        Cause::OutOfTurn(p) => Told::Place(p),
+        Cause::EndMissing(p) => Told::Place(p),
+        Cause::WrongCount(p) => Told::Place(p),
+        Cause::Extra(p) => Told::Place(p),
+    }
 }
 
 // One byte as a wider number.
@@ -131,33 +178,43 @@ fn block_by_kind(s: &[u8], at: usize, size: usize) -> Block
 {
     let kind_at = at + 4;
     let kind = pair(s, kind_at);
+    if !right_size(kind, size) {
+        return Block::Broken(Cause::WrongSize(at));
+    }
     let body = at + 6;
     if kind == 1 {
-        if size != 8 {
-            return Block::Broken(Cause::WrongSize(at));
-        }
         let unit = word(s, body);
         let number_at = at + 10;
         let number = word(s, number_at);
-        return Block::Head(unit, number);
+        return Block::Head(Heading { unit, number });
     }
     if kind == 2 {
-        if size == 0 {
-            return Block::Broken(Cause::WrongSize(at));
-        }
-        if size % 18 != 0 {
-            return Block::Broken(Cause::WrongSize(at));
-        }
         return Block::Voice(size);
     }
     if kind == 3 {
-        if size != 4 {
-            return Block::Broken(Cause::WrongSize(at));
-        }
         let told = word(s, body);
         return Block::End(told);
     }
     Block::Broken(Cause::UnknownKind(at))
+}
+
+// Whether a payload's size is right for its kind; a kind that is unknown has no wrong size.
+fn right_size(kind: u32, size: usize) -> bool
+    ensures { λ r. ⌜ r ≡ rightSize kind size ⌝ }
+{
+    if kind == 1 {
+        return size == 8;
+    }
+    if kind == 2 {
+        if size == 0 {
+            return false;
+        }
+        return size % 18 == 0;
+    }
+    if kind == 3 {
+        return size == 4;
+    }
+    true
 }
 
 // One step of a walk.
@@ -168,17 +225,17 @@ fn advance(s: &[u8], w: Walk) -> Moved
 {
     let at = w.at;
     match block_at(s, at) {
-        Block::Broken(cause) => Moved::Done(Walked::Refused(cause)),
-        Block::Head(unit, number) => {
+        Block::Broken(cause) => Moved::Done(Ending::Refused(cause)),
+        Block::Head(heading) => {
             if w.headed {
-                return Moved::Done(Walked::Refused(Cause::OutOfTurn(at)));
+                return Moved::Done(Ending::Refused(Cause::OutOfTurn(at)));
             }
-            let next = at + 14;
+            let next = at + 6 + 8;
             Moved::On(Walk {
                 at: next,
                 headed: true,
-                unit,
-                number,
+                heading,
+                voices: next,
                 frames: w.frames,
             })
         }
@@ -187,61 +244,57 @@ fn advance(s: &[u8], w: Walk) -> Moved
                 let next = at + 6 + size;
                 let more = (size / 18) as u32;
                 let frames = w.frames + more;
-                return Moved::On(Walk {
-                    at: next,
-                    headed: w.headed,
-                    unit: w.unit,
-                    number: w.number,
-                    frames,
-                });
+                let mut further = w;
+                further.at = next;
+                further.frames = frames;
+                return Moved::On(further);
             }
-            Moved::Done(Walked::Refused(Cause::OutOfTurn(at)))
+            Moved::Done(Ending::Refused(Cause::OutOfTurn(at)))
         }
         Block::End(told) => Moved::Done(end_walk(s, w, told)),
     }
 }
 
-// What a walk comes to at an end block that tells a number of frames.
-fn end_walk(s: &[u8], w: Walk, told: u32) -> Walked
+// How a walk ends at an end block that tells a number of frames.
+fn end_walk(s: &[u8], w: Walk, told: u32) -> Ending
     requires { ⌜ blockAt (now s) (w .at) ≡ End told ⌝ }
     ensures { λ r. ⌜ Done r ≡ stepOf (now (s .entry)) w ⌝ }
 {
     let at = w.at;
     if w.frames == 0 {
-        return Walked::Refused(Cause::OutOfTurn(at));
+        return Ending::Refused(Cause::OutOfTurn(at));
     }
     if told != w.frames {
-        return Walked::Refused(Cause::WrongCount(at));
+        return Ending::Refused(Cause::WrongCount(at));
     }
-    let after = at + 10;
+    let after = at + 6 + 4;
     if s.len() != after {
-        return Walked::Refused(Cause::Extra(after));
+        return Ending::Refused(Cause::Extra(after));
     }
-    Walked::Whole(Heading {
-        unit: w.unit,
-        number: w.number,
-        frames: w.frames,
-    })
+    Ending::Sound
 }
 
-// Walks through the blocks of any bytes: what a recording's head tells and its number of frames, or the refusal.
+// Walks through the blocks of any bytes: what was passed, and whether the recording is sound or why it is refused.
 pub fn walk_through(s: &[u8]) -> Walked
     ensures { λ r. ⌜ r ≡ walkedOf (now (s .entry)) ⌝ }
 {
-    if 65536 < s.len() {
-        return Walked::Refused(Cause::TooLong);
-    }
-    let mut w = Walk {
+    let mut walk = Walk {
         at: 0,
         headed: false,
-        unit: 0,
-        number: 0,
+        heading: Heading { unit: 0, number: 0 },
+        voices: 0,
         frames: 0,
     };
+    if 65536 < s.len() {
+        return Walked {
+            walk,
+            ending: Ending::Refused(Cause::TooLong),
+        };
+    }
     loop {
-        match advance(s, w) {
-            Moved::On(next) => w = next,
-            Moved::Done(answer) => return answer,
+        match advance(s, walk) {
+            Moved::On(next) => walk = next,
+            Moved::Done(ending) => return Walked { walk, ending },
         }
     }
 }
@@ -249,6 +302,7 @@ pub fn walk_through(s: &[u8]) -> Walked
 // The payload of the k-th voice block, counted from 0, as that part of the bytes; the empty part where there is none.
 pub fn voice_block(s: &[u8], k: usize) -> &[u8]
     ensures { λ r. ⌜ now r ≡ voiceBlockOf (now (s .entry)) k ⌝ }
+    ensures { λ r. ⌜ ptr r ≡ placeIn (ptr (s .entry)) (spanOf (now (s .entry)) k .from) ⌝ }
 {
     let span = voice_span(s, k);
     let from = span.from;
@@ -256,21 +310,26 @@ pub fn voice_block(s: &[u8], k: usize) -> &[u8]
     &s[from..to]
 }
 
-// Where the payload of the k-th voice block stands; nowhere in a refused recording.
-fn voice_span(s: &[u8], k: usize) -> Span
-    ensures { λ r. ⌜ Spans (now (s .entry)) (voiceBlockOf (now (s .entry)) k) r ⌝ }
+// Where the payload of the k-th voice block stands; from 0 to 0 where there is none.
+pub fn voice_span(s: &[u8], k: usize) -> Span
+    ensures { λ r. ⌜ r ≡ spanOf (now (s .entry)) k ⌝ }
 {
-    match walk_through(s) {
-        Walked::Refused(_) => Span { from: 0, to: 0 },
-        Walked::Whole(_) => span_after_head(s, k),
+    let walked = walk_through(s);
+    let ending = walked.ending;
+    match ending {
+        Ending::Refused(_) => Span { from: 0, to: 0 },
+        Ending::Sound => {
+            let voices = walked.walk.voices;
+            span_from(s, voices, k)
+        }
     }
 }
 
-// The same of the voice blocks that follow the first fourteen bytes.
-fn span_after_head(s: &[u8], k: usize) -> Span
-    ensures { λ r. ⌜ Spans (now (s .entry)) (getD (voicesFrom (now (s .entry)) afterHead) k []) r ⌝ }
+// The same of the voice blocks from a place on.
+fn span_from(s: &[u8], voices: usize, k: usize) -> Span
+    ensures { λ r. ⌜ r ≡ getD (spansFrom (now (s .entry)) voices) k nowhere ⌝ }
 {
-    let mut at = 14;
+    let mut at = voices;
     let mut before = k;
     loop {
         let size = voice_size(s, at);
@@ -292,7 +351,7 @@ fn voice_size(s: &[u8], at: usize) -> usize
     ensures { λ r. ⌜ r ≡ voiceSize (now (s .entry)) at ⌝ }
 {
     match block_at(s, at) {
-        Block::Head(_, _) => 0,
+        Block::Head(_) => 0,
         Block::Voice(size) => size,
         Block::End(_) => 0,
         Block::Broken(_) => 0,

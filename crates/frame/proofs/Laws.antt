@@ -21,53 +21,57 @@ use Rattle.record.specs.declared.Record.{Record}
 use Rattle.record.proofs.Laws.{index-given}
 use Rattle.frame.specs.Places.{fieldAt, bitIn, bitsIn, placeOf}
 use Rattle.frame.specs.Parity.{guardedPlace, check, number, inverted, mended}
-use Rattle.frame.specs.Frame.{byteOf, shiftOf, bitAt, packed, share, indexIn, recordOf, sent, withParity, parityOf}
+use Rattle.frame.specs.Frame.{byteOf, shiftOf, placeAt, bitAt, packed, share, indexIn, recordOf, sent, withParity, parityOf}
+use Rattle.frame.proofs.Order.{byte-small, shift-small, place-back, there-first, there-last, byte-there, shift-there}
 use Rattle.frame.proofs.Fields.{value-collected, value-bit, field-small, bit-small, place-of-here, field-of-place, bit-of-place}
 use Rattle.frame.proofs.Mended.{guardedField, guardedBit, guarded-first, guarded-last, field-of-guarded, bit-of-guarded, guarded-apart, mended-same, mended-there}
+
+-- byte k of the bytes packed from the bits b
+abbrev pub packedByte : (ℕ → ℕ) → ℕ → ℕ
+packedByte b k = fromBits (λ i. b (placeAt k i)) 8
 
 -- the bits of packed bytes are those that were packed
 module _ (b : ℕ → ℕ) (bits : (p : ℕ) → b p < 2) where
   pub bit-packed : (p : ℕ) → 1 ≤ p → p ≤ 144 → bitAt (packed b) p ≡ b p
   unfolding bitAt packed
   bit-packed p a h =
-      ap (λ (x : ℕ). bit x (shiftOf p)) (getD-tabulate (λ k. fromBits (λ i. b (8 * k + 8 - i)) 8) 0 18 (byteOf p) (omega arith))
-      ∙ bit-fromBits (λ i. b (8 * byteOf p + 8 - i)) 8 (shiftOf p) (λ k l. bits (8 * byteOf p + 8 - k)) (omega arith)
-      ∙ ap b place
-    where
-      place : 8 * byteOf p + 8 - shiftOf p ≡ p
-      place = omega arith
+      ap (λ (x : ℕ). bit x (shiftOf p)) (getD-tabulate (packedByte b) 0 18 (byteOf p) (byte-small p a h))
+      ∙ bit-fromBits (λ i. b (placeAt (byteOf p) i)) 8 (shiftOf p) (λ k l. bits (placeAt (byteOf p) k)) (shift-small p a h)
+      ∙ ap b (place-back p a h)
 
   -- and they are bytes
   pub packed-byte : (k : ℕ) → k < 18 → getD (packed b) k 0 < 256
   unfolding packed
   packed-byte k h =
-      rw (getD-tabulate (λ k. fromBits (λ i. b (8 * k + 8 - i)) 8) 0 18 k h) (fromBits-lt (λ i. b (8 * k + 8 - i)) 8 (λ i l. bits (8 * k + 8 - i)))
+      rw (getD-tabulate (packedByte b) 0 18 k h) (fromBits-lt (λ i. b (placeAt k i)) 8 (λ i l. bits (placeAt k i)))
 
+-- packed bits are eighteen bytes
 pub length-packed : (b : ℕ → ℕ) → length (packed b) ≡ 18
 unfolding packed
-length-packed b = length-tabulate (λ k. fromBits (λ i. b (8 * k + 8 - i)) 8) 18
+length-packed b = length-tabulate (packedByte b) 18
 
--- bit i of byte k stands at place 8 k + 8 - i
-pub bit-of-byte : (s : List ℕ) (k i : ℕ) → i < 8 → bitAt s (8 * k + 8 - i) ≡ bit (getD s k 0) i
+-- bit i of byte k is the bit at the place that stands there
+pub bit-of-byte : (s : List ℕ) (k i : ℕ) → k < 18 → i < 8 → bitAt s (placeAt k i) ≡ bit (getD s k 0) i
 unfolding bitAt
-bit-of-byte s k i h = rw (byte, shift)
-  where
-    byte : byteOf (8 * k + 8 - i) ≡ k
-    byte = omega arith
-
-    shift : shiftOf (8 * k + 8 - i) ≡ i
-    shift = omega arith
+bit-of-byte s k i h l = rw (byte-there k i h l, shift-there k i h l)
 
 -- eighteen bytes are packed from their bits
 pub packed-bits : (s : List ℕ) → length s ≡ 18 → ((k : ℕ) → k < 18 → getD s k 0 < 256) → packed (bitAt s) ≡ s
 unfolding packed
-packed-bits s long bytes = tabulate-is f 0 s 18 long byte
+packed-bits s long bytes = tabulate-is (packedByte (bitAt s)) 0 s 18 long byte
   where
-    f : ℕ → ℕ
-    f k = fromBits (λ i. bitAt s (8 * k + 8 - i)) 8
+    byte : (k : ℕ) → k < 18 → packedByte (bitAt s) k ≡ getD s k 0
+    byte k h =
+        fromBits-cong (λ i. bitAt s (placeAt k i)) (bit (getD s k 0)) 8 (λ i l. bit-of-byte s k i h l)
+        ∙ fromBits-bit 8 (getD s k 0) (bytes k h)
 
-    byte : (k : ℕ) → k < 18 → f k ≡ getD s k 0
-    byte k h = fromBits-cong (λ i. bitAt s (8 * k + 8 - i)) (bit (getD s k 0)) 8 (λ i l. bit-of-byte s k i l) ∙ fromBits-bit 8 (getD s k 0) (bytes k h)
+-- bits that agree are packed into the same bytes
+pub packed-cong-bits : (b c : ℕ → ℕ) → ((p : ℕ) → 1 ≤ p → p ≤ 144 → b p ≡ c p) → packed b ≡ packed c
+unfolding packed
+packed-cong-bits b c same =
+    tabulate-cong (packedByte b) (packedByte c) 18
+    (λ k h. fromBits-cong (λ i. b (placeAt k i)) (λ i. c (placeAt k i)) 8
+    (λ i l. same (placeAt k i) (there-first k i h l) (there-last k i h l)))
 
 -- reading looks at the places 1 to 144 alone
 module _ (b c : ℕ → ℕ) (same : (p : ℕ) → 1 ≤ p → p ≤ 144 → b p ≡ c p) where
@@ -333,10 +337,3 @@ module _ (e : ℕ → ℕ) (m n : ℕ) (a : 1 ≤ m) (l : m ≤ 15) (b : 1 ≤ n
 
   pub number-third : (number e ≡ m → ⊥) × (number e ≡ n → ⊥)
   number-third = (not-either m n b k (λ i. refl), not-either n m a l (λ i. omega arith))
-
--- bits that agree are packed into the same bytes
-pub packed-cong-bits : (b c : ℕ → ℕ) → ((p : ℕ) → 1 ≤ p → p ≤ 144 → b p ≡ c p) → packed b ≡ packed c
-unfolding packed
-packed-cong-bits b c same =
-    tabulate-cong (λ k. fromBits (λ i. b (8 * k + 8 - i)) 8) (λ k. fromBits (λ i. c (8 * k + 8 - i)) 8) 18
-    (λ k h. fromBits-cong (λ i. b (8 * k + 8 - i)) (λ i. c (8 * k + 8 - i)) 8 (λ i l. same (8 * k + 8 - i) (omega arith) (omega arith)))

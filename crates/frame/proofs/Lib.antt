@@ -1,3 +1,4 @@
+pub mod Order
 pub mod Places
 pub mod Gathered
 pub mod Number

@@ -1,18 +1,19 @@
--- The loop of `number_of`: four sums over the guarded bits passed. And the entries of the guarded bits.
+-- The loop of `number_of`: the exclusive or of the numbers of the guarded bits passed that are 1. And the entries of the guarded bits.
 -- Assumes nothing.
-use mathlib.Core.Path.{_≡_, _∙_, sym, refl, ap}
+use mathlib.Core.Path.{_≡_, _∙_, sym, refl, ap, subst}
 use mathlib.Core.List.{List}
 use Prim.Native.Nat.{ℕ, zero, suc, _+_, _-_, _*_, _/_, _%_, _^_, _<_, _≤_}
 use native.Mathlib.Omega.{arith}
 use lib.Dec.{ltb, ltb→lt}
-use lib.Bits.{bitXor}
+use lib.Bits.{bitXor, xor-lt}
 use lib.ListN.{getD, set}
 use borrow.Author.Tests.{eq-eqb, ne-eqb}
 use lib.Pow.{shl-exact}
-use native.Mathlib.Nat.{one-mul}
+use native.Mathlib.Nat.{one-mul, mul-one, mul-zero}
 use Rattle.laws.specs.Total.{total, bit, fromBits}
 use Rattle.laws.proofs.Table.{at}
-use Rattle.laws.proofs.Total.{total-more, total-most}
+use Rattle.laws.proofs.Total.{total-more}
+use Rattle.laws.proofs.Bits.{fromBits-lt, bit-fromBits, same-bits, bit-xor, bit-zero}
 use Rattle.frame.specs.Parity.{numberOf}
 use Rattle.frame.specs.Steps.{guardedEntries, bitOfEntry, mendedFields}
 use Rattle.frame.proofs.Places.{next}
@@ -22,102 +23,88 @@ pub guarded-field : (n : ℕ) → n < 15 → getD guardedEntries n 0 / 16 < 29
 unfolding guardedEntries
 guarded-field n h = ltb→lt (getD guardedEntries n 0 / 16) 29 (at 0 (λ (k e : ℕ). ltb (e / 16) 29) guardedEntries tt n h)
 
--- the product of two bits is a bit
-pub bits-product : (a b : ℕ) → a < 2 → b < 2 → a * b < 2
-bits-product zero b p q = omega arith
-bits-product (suc zero) b p q = omega arith
-bits-product (suc (suc a)) b p q = absurd (omega arith)
-
 -- the guarded bits of a list of indices, by correction number
 abbrev pub guardedBits : List ℕ → ℕ → ℕ
 guardedBits v n = bitOfEntry v (getD guardedEntries (n - 1) 0)
 
+-- a bit of a number, taken once or not at all
+taken-bit : (n x i : ℕ) → x < 2 → bit (n * x) i ≡ bit n i * x
+taken-bit n zero i h = ap (λ (k : ℕ). bit k i) (mul-zero n) ∙ bit-zero i ∙ sym (mul-zero (bit n i))
+taken-bit n (suc zero) i h = ap (λ (k : ℕ). bit k i) (mul-one n) ∙ sym (mul-one (bit n i))
+taken-bit n (suc (suc x)) i h = absurd (omega arith)
+
+-- a number below 16 taken so is below 16
+taken-small : (n x : ℕ) → n < 16 → x < 2 → n * x < 16
+taken-small n zero l h = omega arith
+taken-small n (suc zero) l h = omega arith
+taken-small n (suc (suc x)) l h = absurd (omega arith)
+
 module _ (v : List ℕ) where
-  part : ℕ → ℕ → ℕ
-  part i n = bit n i * guardedBits v n
+  -- the parity of those of the first n guarded bits whose number has bit i
+  abbrev parity : ℕ → ℕ → ℕ
+  parity n i = total (λ m. bit m i * guardedBits v m) n % 2
 
-  part-small : (i n : ℕ) → part i n ≤ 1
-  unfolding part
-  part-small i n = let h = bits-product (bit n i) (guardedBits v n) (omega arith) (omega arith) in omega (arith, h)
-
-  -- what the four sums are after n of the guarded bits
-  pub record Summed (n zero one two three : ℕ) : Type 0 where
+  -- the exclusive or of the numbers of those of the first n guarded bits that are 1: bit i is that parity
+  pub record Summed (n number : ℕ) : Type 0 where
     pub upto : n ≤ 15
-    pub at-zero : zero ≡ total (λ m. bit m 0 * guardedBits v m) n
-    pub at-one : one ≡ total (λ m. bit m 1 * guardedBits v m) n
-    pub at-two : two ≡ total (λ m. bit m 2 * guardedBits v m) n
-    pub at-three : three ≡ total (λ m. bit m 3 * guardedBits v m) n
+    pub here : number ≡ fromBits (parity n) 4
 
-  pub summed-none : Summed 0 0 0 0 0
-  unfolding total
-  summed-none = record { upto = omega arith; at-zero = refl; at-one = refl; at-two = refl; at-three = refl }
+  pub summed-none : Summed 0 0
+  unfolding total fromBits
+  summed-none = record { upto = omega arith; here = refl }
 
-  -- a sum is at most the count of its parts
-  pub sum-small : (i n : ℕ) → total (λ m. bit m i * guardedBits v m) n ≤ n
-  unfolding part
-  sum-small i n = let h = total-most (part i) 1 n (λ k a b. part-small i k) in omega (arith, h)
+  module _ {n number : ℕ} (s : Summed n number) where
+    pub summed-small : number < 16
+    summed-small = rw (s .here) (fromBits-lt (parity n) 4 (λ i h. omega arith))
 
-  module _ {n a b c d : ℕ} (s : Summed n a b c d) where
-    pub small-zero : a ≤ n
-    small-zero = let h = sum-small 0 n in omega (arith, h, s .at-zero)
-
-    pub small-one : b ≤ n
-    small-one = let h = sum-small 1 n in omega (arith, h, s .at-one)
-
-    pub small-two : c ≤ n
-    small-two = let h = sum-small 2 n in omega (arith, h, s .at-two)
-
-    pub small-three : d ≤ n
-    small-three = let h = sum-small 3 n in omega (arith, h, s .at-three)
-
-    -- one sum's next value, as the code adds it
-    grown : (i w x y : ℕ) → w ≡ bit (n + 1) i → x ≡ guardedBits v (n + 1) → y ≡ total (λ m. bit m i * guardedBits v m) n
-        → y + w * x ≡ total (λ m. bit m i * guardedBits v m) (n + 1)
-    grown i w x y p q e =
-        ap (λ (k : ℕ). k + w * x) e ∙ ap (λ (k : ℕ). total (λ m. bit m i * guardedBits v m) n + k * x) p
-        ∙ ap (λ (k : ℕ). total (λ m. bit m i * guardedBits v m) n + bit (n + 1) i * k) q
-        ∙ sym (total-more (λ m. bit m i * guardedBits v m) n)
-
-    pub summed-more : n < 15 → (x : ℕ) → x ≡ guardedBits v (n + 1)
-        → Summed (n + 1) (a + (n + 1) % 2 * x) (b + (n + 1) / 2 % 2 * x) (c + (n + 1) / 4 % 2 * x) (d + (n + 1) / 8 % 2 * x)
-    summed-more h x e =
+    -- one guarded bit more
+    pub summed-more : n < 15 → (x : ℕ) → x < 2 → x ≡ guardedBits v (n + 1) → Summed (n + 1) (bitXor number ((n + 1) * x))
+    summed-more h x small e =
         record {
           upto = omega arith;
-          at-zero = grown 0 _ x a (omega arith) e (s .at-zero);
-          at-one = grown 1 _ x b refl e (s .at-one);
-          at-two = grown 2 _ x c refl e (s .at-two);
-          at-three = grown 3 _ x d refl e (s .at-three);
+          here =
+              same-bits 4 (bitXor number ((n + 1) * x)) (fromBits (parity (n + 1)) 4)
+              (xor-lt 4 number ((n + 1) * x) summed-small (taken-small (n + 1) x (omega arith) small))
+              (fromBits-lt (parity (n + 1)) 4 (λ i l. omega arith))
+              (λ i l. bit-xor number ((n + 1) * x) i ∙ grown i l ∙ sym (bit-fromBits (parity (n + 1)) 4 i (λ k m. omega arith) l));
         }
+      where
+        before : (i : ℕ) → i < 4 → bit number i ≡ parity n i
+        before i l = ap (λ (k : ℕ). bit k i) (s .here) ∙ bit-fromBits (parity n) 4 i (λ k m. omega arith) l
 
-    pub summed-all : 15 ≤ n → a % 2 + b % 2 * 2 + c % 2 * 4 + d % 2 * 8 ≡ numberOf (guardedBits v)
-    unfolding fromBits
+        grown : (i : ℕ) → i < 4 → (bit number i + bit ((n + 1) * x) i) % 2 ≡ parity (n + 1) i
+        grown i l =
+            let old = before i l in
+            let one : bit ((n + 1) * x) i ≡ bit (n + 1) i * guardedBits v (n + 1)
+            = taken-bit (n + 1) x i small ∙ ap (λ (k : ℕ). bit (n + 1) i * k) e in
+            let sum = total-more (λ m. bit m i * guardedBits v m) n in
+            rw (old, one, sum) (omega arith)
+
+    pub summed-all : 15 ≤ n → number ≡ numberOf (guardedBits v)
     summed-all h =
         let e : n ≡ 15 = omega (arith, s .upto) in
-        let p : a ≡ total (λ m. bit m 0 * guardedBits v m) 15 = s .at-zero ∙ ap (total (λ m. bit m 0 * guardedBits v m)) e in
-        let q : b ≡ total (λ m. bit m 1 * guardedBits v m) 15 = s .at-one ∙ ap (total (λ m. bit m 1 * guardedBits v m)) e in
-        let r : c ≡ total (λ m. bit m 2 * guardedBits v m) 15 = s .at-two ∙ ap (total (λ m. bit m 2 * guardedBits v m)) e in
-        let t : d ≡ total (λ m. bit m 3 * guardedBits v m) 15 = s .at-three ∙ ap (total (λ m. bit m 3 * guardedBits v m)) e in
-        rw (p, q, r, t) (omega arith)
+        subst (λ (k : ℕ). number ≡ fromBits (parity k) 4) e (s .here)
 
--- the code's view of the next guarded bit, of its list t of entries
-module _ (v t : List ℕ) (same : t ≡ guardedEntries) (n : ℕ) where
-  pub next-guarded : bitOfEntry v (getD t n 0) ≡ guardedBits v (n + 1)
-  next-guarded = ap (λ (l : List ℕ). bitOfEntry v (getD l n 0)) same ∙ ap (λ (k : ℕ). bitOfEntry v (getD guardedEntries k 0)) (sym (next n))
+-- the code's view of the guarded bits, by its list t of entries
+module _ (t : List ℕ) (same : t ≡ guardedEntries) (n : ℕ) where
+  -- the next one is bit n + 1
+  pub next-guarded : (v : List ℕ) → bitOfEntry v (getD t n 0) ≡ guardedBits v (n + 1)
+  next-guarded v =
+      ap (λ (l : List ℕ). bitOfEntry v (getD l n 0)) same ∙ ap (λ (k : ℕ). bitOfEntry v (getD guardedEntries k 0)) (sym (next n))
 
+  -- and is in one of the 29
   pub next-field : n < 15 → getD t n 0 / 16 < 29
   next-field h = rw same (guarded-field n h)
+
+-- the next number, taken once or not at all, is small
+pub taken-room : (n x : ℕ) → n < 15 → (n + 1) * (x % 2) < 2 ^ 64
+taken-room n x h = let s = taken-small (n + 1) (x % 2) (omega arith) (omega arith) in omega (arith, s)
 
 -- one bit shifted to its place
 pub shifted-one : (k : ℕ) → k < 16 → 1 * 2 ^ k % 65536 ≡ 2 ^ k
 shifted-one k h = shl-exact 1 k 16 (omega arith) (omega arith) ∙ one-mul (2 ^ k)
 
--- the product of two bits fits, and so does a small sum with it
-pub product-fits : (x y : ℕ) → x % 2 * (y % 2) < 2 ^ 64
-product-fits x y = let h = bits-product (x % 2) (y % 2) (omega arith) (omega arith) in omega (arith, h)
-
-pub sum-fits : {s n : ℕ} (x y : ℕ) → s ≤ n → n < 15 → s + x % 2 * (y % 2) < 2 ^ 64
-sum-fits x y p q = let h = bits-product (x % 2) (y % 2) (omega arith) (omega arith) in omega (arith, h)
-
+-- 0 inverts none
 pub mended-none : (v : List ℕ) (n : ℕ) → n ≡ 0 → v ≡ mendedFields v n
 unfolding mendedFields
 mended-none v n e = rw (eq-eqb n 0 e)

@@ -9,8 +9,9 @@ use lib.ListN.{getD}
 use lib.Pow.{pow-mono}
 use Rattle.laws.specs.Total.{fromBits}
 use Rattle.laws.proofs.Bits.{fromBits-lt, fromBits-low, fromBits-cong}
-use Rattle.frame.specs.Frame.{sent}
+use Rattle.frame.specs.Frame.{byteOf, shiftOf, placeAt, sent}
 use Rattle.frame.specs.Steps.{entries}
+use Rattle.frame.proofs.Order.{place-back}
 use Rattle.frame.proofs.Places.{entry-field, entry-bit, field-below, next}
 
 module _ (b : ℕ → ℕ) (bits : (p : ℕ) → b p < 2) (from : ℕ) where
@@ -53,6 +54,27 @@ module _ (b : ℕ → ℕ) (bits : (p : ℕ) → b p < 2) (from : ℕ) where
 
     pub shifted-all : 8 ≤ q → x ≡ fromBits (λ i. b (from + 8 - i)) 8
     shifted-all h = let e : q ≡ 8 = omega (arith, s .upto) in subst (λ (n : ℕ). x ≡ fromBits (λ i. b (from + n - i)) n) e (s .here)
+
+-- bit i of byte k stands at place 8 k + 8 - i: eight places a byte, the first of them at the top, as the code goes through them
+pub stands-at : (k i : ℕ) → k < 18 → i < 8 → placeAt k i ≡ 8 * k + 8 - i
+stands-at k i h l =
+    ap (λ (x : ℕ). placeAt x i) (sym byte) ∙ ap (placeAt (byteOf p)) (sym shift) ∙ place-back p (omega arith) (omega arith)
+  where
+    p : ℕ
+    p = 8 * k + 8 - i
+
+    byte : byteOf p ≡ k
+    byte = omega arith
+
+    shift : shiftOf p ≡ i
+    shift = omega arith
+
+-- so the bits shifted in after 8 k places are byte k
+module _ (b : ℕ → ℕ) (bits : (p : ℕ) → b p < 2) (k : ℕ) (h : k < 18) where
+  pub byte-shifted : {q x : ℕ} → Shifted b bits (8 * k) q x → 8 ≤ q → x ≡ fromBits (λ i. b (placeAt k i)) 8
+  byte-shifted s l =
+      shifted-all b bits (8 * k) s l
+      ∙ fromBits-cong (λ i. b (8 * k + 8 - i)) (λ i. b (placeAt k i)) 8 (λ i m. ap b (sym (stands-at k i h m)))
 
 -- the next bit to send, as the code takes it, of its list t of entries
 module _ (v t : List ℕ) (same : t ≡ entries) (p : ℕ) (h : p < 144) where

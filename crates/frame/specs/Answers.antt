@@ -41,6 +41,10 @@ readingOf s =
     cond (eqb (length s) 18) (readIn (bitAt s))
     (record { verdict = Verdict.WrongLength; indices = noRecord; number = 0; mark = 0 })
 
+-- the correction number of a reading; 0 where the frame was refused
+abbrev pub correctionNumber : Reading → ℕ
+correctionNumber r = r .number
+
 -- what a record to write gets, given the length of the lent buffer: lowest refusal number first
 unfoldable pub writtenOf : Record → ℕ → Written
 writtenOf r n =

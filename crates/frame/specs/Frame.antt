@@ -4,6 +4,8 @@ use mathlib.Core.List.{List}
 use Prim.Native.Nat.{ℕ, _+_, _-_, _*_, _/_, _%_, _^_}
 use lib.Dec.{eqb}
 use lib.ListN.{getD}
+use Rattle.laws.specs.Lowest.{lowest}
+use Rattle.laws.specs.Table.{both}
 use Rattle.laws.specs.Total.{total, bit, fromBits}
 use Rattle.laws.specs.Tabulate.{tabulate}
 use Rattle.record.specs.Fields.{indexOf}
@@ -11,20 +13,28 @@ use Rattle.record.specs.declared.Record.{Record}
 use Rattle.frame.specs.Places.{fieldAt, bitIn}
 use Rattle.frame.specs.Parity.{number}
 
--- the house rule on the order of bits: place 1 is the top bit of byte 0, place 144 the lowest bit of byte 17
+-- where place p stands among the eighteen bytes: its byte, and its bit there with 0 the lowest. This is the house rule on the order of
+-- bits, and nothing else knows of it: place 1 is the top bit of byte 0, place 144 the lowest bit of byte 17.
+abbrev pub standing : ℕ → ℕ × ℕ
+standing p = ((p - 1) / 8, 7 - (p - 1) % 8)
+
 abbrev pub byteOf : ℕ → ℕ
-byteOf p = (p - 1) / 8
+byteOf p = standing p .0
 
 abbrev pub shiftOf : ℕ → ℕ
-shiftOf p = 7 - (p - 1) % 8
+shiftOf p = standing p .1
+
+-- and back: the place that stands at bit i of byte k, or 0 if none does
+unfoldable pub placeAt : ℕ → ℕ → ℕ
+placeAt k i = lowest (λ p. both (eqb (byteOf p) k) (eqb (shiftOf p) i)) 144
 
 -- the bit at place p of a frame
 unfoldable pub bitAt : List ℕ → ℕ → ℕ
 bitAt s p = bit (getD s (byteOf p) 0) (shiftOf p)
 
--- the eighteen bytes that have the bits b: bit i of byte k stands at place 8 k + 8 - i
+-- the eighteen bytes that have the bits b
 unfoldable pub packed : (ℕ → ℕ) → List ℕ
-packed b = tabulate (λ k. fromBits (λ i. b (8 * k + 8 - i)) 8) 18
+packed b = tabulate (λ k. fromBits (λ i. b (placeAt k i)) 8) 18
 
 -- the index in field f of the bits b: each place that belongs to the field counts with the weight of its bit
 abbrev pub share : (ℕ → ℕ) → ℕ → ℕ → ℕ

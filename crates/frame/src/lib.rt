@@ -3,13 +3,13 @@
 // number, the four parity bits HP-0 to HP-3 under 0.
 use record::Record;
 ghost use mathlib.Core.Path.{_≡_};
-ghost use Prim.Native.Nat.{_+_, _-_, _*_, _≤_, _<_, _^_};
+ghost use Prim.Native.Nat.{_-_, _<_};
 ghost use lib.ListN.{length, getD};
 ghost use Rattle.laws.specs.Tabulate.{tabulate};
 ghost use Rattle.laws.specs.Total.{fromBits};
 ghost use Rattle.frame.specs.Parity.{numberOf};
-ghost use Rattle.frame.specs.Frame.{bitAt, packed, indexIn, sent};
-ghost use Rattle.frame.specs.Answers.{readingOf, writtenOf, frameLeft, recordMark};
+ghost use Rattle.frame.specs.Frame.{placeAt, bitAt, packed, indexIn, sent};
+ghost use Rattle.frame.specs.Answers.{readingOf, correctionNumber, writtenOf, frameLeft, recordMark};
 ghost use Rattle.frame.specs.Steps.{entries, guardedEntries, bitOfEntry, mendedFields, recordBy, fieldsOf};
 
 // Whether a frame was read. (Refusal 1: it was not eighteen bytes.)
@@ -24,6 +24,15 @@ pub struct Reading {
     pub indices: Record,
     pub number: usize,
     pub mark: usize,
+}
+
+impl Reading {
+    // The correction number of what was read.
+    pub fn correction_number(self) -> usize
+        ensures { λ n. ⌜ n ≡ correctionNumber self ⌝ }
+    {
+        self.number
+    }
 }
 
 // What a record to write gets: the frame, or the refusal with what it tells.
@@ -302,27 +311,21 @@ fn gather(frame: &[u8]) -> [u16; 29]
     fields
 }
 
-// The correction number of a list of indices by field.
+// The correction number of a list of indices by field: the exclusive or of the numbers of the guarded bits that are 1.
 fn number_of(fields: [u16; 29]) -> usize
     ensures { λ r. ⌜ r ≡ numberOf (λ n. bitOfEntry fields (getD guardedEntries (n - 1) 0)) ⌝ }
 {
     let guarded = guarded();
-    let mut zero = 0;
-    let mut one = 0;
-    let mut two = 0;
-    let mut three = 0;
+    let mut number = 0;
     let mut n = 0;
     while n < 15 {
         let entry = guarded[n];
         let f = (entry / 16) as usize;
         let x = ((fields[f] >> (entry % 16)) % 2) as usize;
         n += 1;
-        zero += n % 2 * x;
-        one += n / 2 % 2 * x;
-        two += n / 4 % 2 * x;
-        three += n / 8 % 2 * x;
+        number = number ^ (n * x);
     }
-    zero % 2 + one % 2 * 2 + two % 2 * 4 + three % 2 * 8
+    number
 }
 
 // The indices with the bit of a correction number inverted; 0 inverts none.
@@ -410,13 +413,14 @@ fn to_fields(r: Record) -> [u16; 29]
     ]
 }
 
-// Eight bits sent for the indices, from the place after `from` on, the first of them at the top.
-fn byte_at(fields: &[u16], table: &[u16], from: usize) -> u8
+// Byte k of the frame that the indices are sent in: eight places of the table, the first of them at the top.
+fn byte_at(fields: &[u16], table: &[u16], k: usize) -> u8
     requires { ⌜ length (now fields) ≡ 29 ⌝ }
     requires { ⌜ now table ≡ entries ⌝ }
-    requires { ⌜ from + 8 ≤ 144 ⌝ }
-    ensures { λ r. ⌜ r ≡ fromBits (λ i. sent (λ f. getD (now (fields .entry)) f 0) (from + 8 - i)) 8 ⌝ }
+    requires { ⌜ k < 18 ⌝ }
+    ensures { λ r. ⌜ r ≡ fromBits (λ i. sent (λ f. getD (now (fields .entry)) f 0) (placeAt k i)) 8 ⌝ }
 {
+    let from = 8 * k;
     let mut x: u16 = 0;
     let mut q = 0;
     while q < 8 {
@@ -436,7 +440,7 @@ fn pack(fields: [u16; 29], frame: &mut [u8])
     let table = table();
     let mut k = 0;
     while k < 18 {
-        frame[k] = byte_at(&fields, &table, 8 * k);
+        frame[k] = byte_at(&fields, &table, k);
         k += 1;
     }
 }

@@ -5,13 +5,13 @@ use mathlib.Core.List.{List}
 use Prim.Native.Nat.{ℕ, _+_, _*_, _^_, _<_}
 use native.Mathlib.Omega.{arith}
 use borrow.Author.Tests.{eq-eqb, ne-eqb}
-use lib.IntN.{ℤ}
+use lib.IntN.{ℤ, pos}
 use lib.ListN.{length}
 use mir.Syntax.{w32}
 use mir.Val.{toZ}
 use mir.Facts.{toZ-pos}
 use Rattle.record.specs.declared.Record.{Record}
-use Rattle.frame.specs.Answers.{readingOf, writtenOf, refusalOf, frameLeft}
+use Rattle.frame.specs.Answers.{readingOf, correctionNumber, writtenOf, refusalOf, frameLeft}
 use Rattle.frame.specs.declared.Reading.{Reading}
 use Rattle.frame.specs.declared.Verdict.the-variants as Verdict
 use Rattle.frame.specs.declared.Written.{Written}
@@ -33,13 +33,15 @@ module _ (s o : List ℕ) where
     unfolding readResult recordLeft
     wrong-frame v = rw (eq-eqb (length o) 56 long, ← is, v) (refl, refl)
 
-    pub was-read : (next : List ℕ) → a .verdict ≡ Verdict.Read → next ≡ bytesOf (a .indices)
-        → Reads s o (toZ w32 (16 * a .mark + a .number)) next
+    -- the mark and the correction number n of what was read are told, and its record put
+    pub was-read : (n : ℕ) (next : List ℕ) → a .verdict ≡ Verdict.Read → n ≡ correctionNumber a → next ≡ bytesOf (a .indices)
+        → Reads s o (toZ w32 (16 * a .mark + n)) next
     unfolding readResult recordLeft
-    was-read next v e = rw (eq-eqb (length o) 56 long, ← is, v) (toZ-pos w32 small, e)
+    was-read n next v numbered e =
+        rw (eq-eqb (length o) 56 long, ← is, v) (toZ-pos w32 small ∙ ap (λ (k : ℕ). pos (16 * a .mark + k)) numbered, e)
       where
-        small : 16 * a .mark + a .number < 2 ^ 31
-        small = rw is (let h = reading-small s in omega (arith, h))
+        small : 16 * a .mark + n < 2 ^ 31
+        small = rw (numbered, is) (let h = reading-small s in omega (arith, h))
 
 -- the answer of the writer
 abbrev pub Writes : List ℕ → List ℕ → ℤ → List ℕ → Type 0

@@ -18,7 +18,7 @@ use Rattle.laws.proofs.Tabulate.{length-tabulate, getD-tabulate}
 use Rattle.record.specs.Fields.{indexOf}
 use Rattle.record.specs.declared.Record.{Record}
 use Rattle.record.proofs.Laws.{index-given, record-is}
-use Rattle.frame.specs.Answers.{readingOf, writtenOf, refusalOf}
+use Rattle.frame.specs.Answers.{readingOf, correctionNumber, writtenOf, refusalOf}
 use Rattle.frame.specs.declared.Reading.{Reading}
 use Rattle.frame.specs.declared.Verdict.{Verdict}
 use Rattle.frame.specs.declared.Verdict.the-variants as Verdict
@@ -85,15 +85,15 @@ bytes-of-record s long bytes =
 
 -- the reader answers -1 or 16 times the mark plus the number, which `reading-small` and `reading-apart` of Ranges bound and take apart
 pub read-result : (s : List ℕ) (n : ℕ)
-    → (readResult s n ≡ refused 1) ⊎ (readResult s n ≡ pos (16 * readingOf s .mark + readingOf s .number))
+    → (readResult s n ≡ refused 1) ⊎ (readResult s n ≡ pos (16 * readingOf s .mark + correctionNumber (readingOf s)))
 unfolding readResult
 read-result s n = sized (eqb n 56)
   where
-    told : (a : Reading) (v : Verdict) → a .verdict ≡ v → (readAnswer a ≡ refused 1) ⊎ (readAnswer a ≡ pos (16 * a .mark + a .number))
+    told : (a : Reading) (v : Verdict) → a .verdict ≡ v → (readAnswer a ≡ refused 1) ⊎ (readAnswer a ≡ pos (16 * a .mark + correctionNumber a))
     told a Verdict.Read e = inr (rw e)
     told a Verdict.WrongLength e = inl (rw e)
 
-    sized : (t : Bool) → let z = cond t (readAnswer (readingOf s)) (refused 1) in (z ≡ refused 1) ⊎ (z ≡ pos (16 * readingOf s .mark + readingOf s .number))
+    sized : (t : Bool) → let z = cond t (readAnswer (readingOf s)) (refused 1) in (z ≡ refused 1) ⊎ (z ≡ pos (16 * readingOf s .mark + correctionNumber (readingOf s)))
     sized true = told (readingOf s) (readingOf s .verdict) refl
     sized false = inl refl
 

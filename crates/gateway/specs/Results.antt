@@ -5,7 +5,7 @@ use Prim.Native.Nat.{ℕ, _+_, _*_}
 use lib.Dec.{eqb}
 use lib.IntN.{ℤ, pos, negℤ}
 use lib.ListN.{length}
-use Rattle.frame.specs.Answers.{readingOf, writtenOf, frameLeft, readRefusal, refusalOf}
+use Rattle.frame.specs.Answers.{readingOf, correctionNumber, writtenOf, frameLeft, readRefusal, refusalOf}
 use Rattle.frame.specs.declared.Reading.{Reading}
 use Rattle.frame.specs.declared.Verdict.the-variants as Verdict
 use Rattle.frame.specs.declared.Written.{Written}
@@ -18,7 +18,8 @@ refused n = negℤ (pos n)
 
 -- the reader's result: 16 times the order mark plus the correction number, or the refusal
 abbrev pub readAnswer : Reading → ℤ
-readAnswer a = cond (eqb (readRefusal (a .verdict)) 0) (pos (16 * a .mark + a .number)) (refused (readRefusal (a .verdict)))
+readAnswer a =
+    cond (eqb (readRefusal (a .verdict)) 0) (pos (16 * a .mark + correctionNumber a)) (refused (readRefusal (a .verdict)))
 
 -- of a frame and the length of the buffer for the record
 unfoldable pub readResult : List ℕ → ℕ → ℤ

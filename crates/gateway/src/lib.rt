@@ -24,7 +24,8 @@ pub extern "C" fn oatlantern_read_frame(frame: &[u8], out: &mut [u8]) -> i32
     match verdict {
         Verdict::Read => {
             put(reading.indices, out);
-            (16 * reading.mark + reading.number) as i32
+            let number = reading.correction_number();
+            (16 * reading.mark + number) as i32
         }
         Verdict::WrongLength => -1,
     }

@@ -14,5 +14,6 @@ pub mod Joined
 pub mod Turns
 pub mod Front
 pub mod Cases
+pub mod Chosen
 pub mod Wide
 pub mod Unless

@@ -106,34 +106,14 @@ module _ (t : ℕ → Bool) where
   pub none-at-all : (n : ℕ) {i : ℕ} → NoneUpTo i → n ≤ i → 0 ≡ lowest t n
   none-at-all n {i} p h = sym (lowest-none n (λ m a b. p .none m a (omega arith)))
 
--- the n numbers after k, searched as a list of their own by u
-module _ (t u : ℕ → Bool) (k n : ℕ) (same : (i : ℕ) → 1 ≤ i → i ≤ n → t (k + i) ≡ u i) where
-  back : (m : ℕ) → k < m → k + (m - k) ≡ m
-  back m h = omega arith
+-- two tests that agree at 1 to n have the same lowest number
+module _ (t u : ℕ → Bool) where
+  from-same : (k i : ℕ) → ((m : ℕ) → i ≤ m → m < i + k → t m ≡ u m) → lowestFrom t i k ≡ lowestFrom u i k
+  unfolding lowestFrom
+  from-same zero i same = refl
+  from-same (suc k) i same =
+      let here : t i ≡ u i = same i (omega arith) (omega arith) in
+      rw (here, from-same k (suc i) (λ m a b. same m (omega arith) (omega arith)))
 
-  after-none : (m j : ℕ) → k < m → m ≤ k + n → m - k < j → j ≤ n + 1 → ((i : ℕ) → 1 ≤ i → i < j → u i ≡ false) → t m ≡ false
-  after-none m j h l b q none = ap t (sym (back m h)) ∙ same (m - k) (omega arith) (omega arith) ∙ none (m - k) (omega arith) (omega arith)
-
-  pub none-part : NoneUpTo t k → 0 ≡ lowest u n → NoneUpTo t (k + n)
-  none-part p e = record { none = λ m a b. at m a b (decLe m k) }
-    where
-      at : (m : ℕ) → 1 ≤ m → m ≤ k + n → Dec (m ≤ k) → t m ≡ false
-      at m a b (yes h) = p .none m a h
-      at m a b (no h) =
-          after-none m (n + 1) (omega arith) b (omega arith) (omega arith) (λ i c d. lowest-zero u n (sym e) i c (omega arith))
-
-  pub found-part : (N j : ℕ) → NoneUpTo t k → j ≡ lowest u n → (j ≡ 0 → ⊥) → k + n ≤ N → k + j ≡ lowest t N
-  found-part N j p e w h = sym (lowest-at t N (k + j) (omega arith) (omega (arith, r .0)) below here)
-    where
-      r : (j ≤ n) × (u j ≡ true) × ((m : ℕ) → 1 ≤ m → m < j → u m ≡ false)
-      r = lowest-found u n j (sym e) (omega arith)
-
-      below : (m : ℕ) → 1 ≤ m → m < k + j → t m ≡ false
-      below m a b = at (decLe m k)
-        where
-          at : Dec (m ≤ k) → t m ≡ false
-          at (yes q) = p .none m a q
-          at (no q) = after-none m j (omega arith) (omega (arith, r .0)) (omega arith) (omega (arith, r .0)) (r .2)
-
-      here : t (k + j) ≡ true
-      here = same j (omega arith) (r .0) ∙ r .1
+  pub lowest-same : (n : ℕ) → ((m : ℕ) → 1 ≤ m → m ≤ n → t m ≡ u m) → lowest t n ≡ lowest u n
+  lowest-same n same = from-same n 1 (λ m a b. same m a (omega arith))

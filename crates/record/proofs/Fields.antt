@@ -1,72 +1,69 @@
--- The fields of a record searched part by part: the ten parameters, the sixteen subframe indices, SP, SY.
+-- The loop of `too_large` over the fields: what it knows, and what each return answers.
 -- Assumes nothing.
-use mathlib.Core.Path.{_≡_, _∙_, sym, ap}
-use Prim.Native.Nat.{ℕ, _+_, _-_, _^_, _<_, _≤_}
+use mathlib.Core.Path.{_≡_, _∙_, sym, refl, ap}
+use mathlib.Core.Bool.{Bool}
+use mathlib.Core.List.{List}
+use Prim.Native.Nat.{ℕ, _+_, _-_, _/_, _^_, _<_, _≤_}
 use native.Mathlib.Omega.{arith}
-use native.Mathlib.Nat.{zero-add}
-use borrow.Author.Tests.{le-leb, lt-leb}
-use lib.Dec.{leb}
-use lib.ListN.{length, getD, take, drop}
-use lib.Seq.{getD-take, getD-drop}
-use Rattle.laws.proofs.Lowest.{NoneUpTo, none-yet, none-more, none-found, none-at-all, none-part, found-part}
-use Rattle.record.specs.Fields.{widths, over, overAt, tooLarge, tooLong}
+use native.Mathlib.Nat.{add-sub-cancel}
+use lib.Dec.{leb, ltb, ltb→lt}
+use lib.ListN.{getD}
+use Rattle.laws.specs.Lowest.{lowest}
+use Rattle.laws.specs.Tabulate.{tabulate}
+use Rattle.laws.proofs.Table.{at}
+use Rattle.laws.proofs.Tabulate.{getD-tabulate}
+use Rattle.laws.proofs.Lowest.{NoneUpTo, none-yet, none-at-all, lowest-same}
+use Rattle.laws.proofs.Wide.{fits-next, wide-next}
+use Rattle.record.specs.Fields.{widths, widthOf, indexOf, over, tooLarge}
 use Rattle.record.specs.declared.Record.{Record}
 
--- the ten parameters
-module _ (r : Record) (long : length (r .lsp) ≡ 10) where
-  at-parameter : (i : ℕ) → 1 ≤ i → i ≤ 10 → over r (0 + i) ≡ overAt (r .lsp) (take 10 widths) i
-  at-parameter i a b = rw (zero-add i) (rw (le-leb i 10 b) (ap (λ (w : ℕ). leb (2 ^ w) (getD (r .lsp) (i - 1) 0)) (sym (getD-take 10 widths (i - 1) 0 (omega arith)))))
+-- every width is below 16, so that a shift by it leaves room
+abbrev below-16 : ℕ → ℕ → Bool
+below-16 k w = ltb w 16
 
-  pub in-parameters : (j : ℕ) → j ≡ tooLong (r .lsp) (take 10 widths) → (j ≡ 0 → ⊥) → j ≡ tooLarge r
-  unfolding tooLarge tooLong
-  in-parameters j e w =
-      sym (zero-add j) ∙ found-part (over r) (overAt (r .lsp) (take 10 widths)) 0 10 at-parameter 28 j (none-yet (over r)) (rw long at e) w (omega arith)
+widths-small : (i : ℕ) → i < 28 → getD widths i 0 < 16
+widths-small i h = ltb→lt (getD widths i 0) 16 (at 0 below-16 widths tt i h)
 
-  pub no-parameter : 0 ≡ tooLong (r .lsp) (take 10 widths) → NoneUpTo (over r) 10
-  unfolding tooLong
-  no-parameter e = none-part (over r) (overAt (r .lsp) (take 10 widths)) 0 10 at-parameter (none-yet (over r)) (rw long at e)
+-- in a list of indices by field, that of field i does not fit its width
+abbrev pub overBy : List ℕ → ℕ → Bool
+overBy indices i = leb (2 ^ widthOf i) (getD indices (i - 1) 0)
 
--- the sixteen subframe indices
-module _ (r : Record) (long : length (r .subframes) ≡ 16) where
-  at-subframe : (i : ℕ) → 1 ≤ i → i ≤ 16 → over r (10 + i) ≡ overAt (r .subframes) (take 16 (drop 10 widths)) i
-  at-subframe i a b =
-      rw (lt-leb (10 + i) 10 (omega arith), le-leb (10 + i) 26 (omega arith))
-      (ap (λ (w : ℕ). leb (2 ^ w) (getD (r .subframes) (10 + i - 11) 0)) width ∙ ap (λ (k : ℕ). leb (2 ^ w′) (getD (r .subframes) k 0)) place)
-    where
-      w′ : ℕ
-      w′ = getD (take 16 (drop 10 widths)) (i - 1) 0
+-- the lowest such field of a record's own list is the record's
+module _ (r : Record) {indices : List ℕ} (e : indices ≡ tabulate (λ k. indexOf r (k + 1)) 28) where
+  same-over : (m : ℕ) → 1 ≤ m → m ≤ 28 → overBy indices m ≡ over r m
+  same-over m a b =
+      let back : m - 1 + 1 ≡ m = omega arith in
+      ap (leb (2 ^ widthOf m))
+      (ap (λ (l : List ℕ). getD l (m - 1) 0) e ∙ getD-tabulate (λ k. indexOf r (k + 1)) 0 28 (m - 1) (omega arith) ∙ ap (indexOf r) back)
 
-      place : 10 + i - 11 ≡ i - 1
-      place = omega arith
-
-      width : getD widths (10 + i - 1) 0 ≡ getD (take 16 (drop 10 widths)) (i - 1) 0
-      width = ap (λ (k : ℕ). getD widths k 0) here ∙ sym (getD-drop 10 widths (i - 1) 0) ∙ sym (getD-take 16 (drop 10 widths) (i - 1) 0 (omega arith))
-        where
-          here : 10 + i - 1 ≡ 10 + (i - 1)
-          here = omega arith
-
-  pub in-subframes : NoneUpTo (over r) 10 → (j : ℕ) → j ≡ tooLong (r .subframes) (take 16 (drop 10 widths)) → (j ≡ 0 → ⊥) → 10 + j ≡ tooLarge r
-  unfolding tooLarge tooLong
-  in-subframes p j e w =
-      found-part (over r) (overAt (r .subframes) (take 16 (drop 10 widths))) 10 16 at-subframe 28 j p (rw long at e) w (omega arith)
-
-  pub no-subframe : NoneUpTo (over r) 10 → 0 ≡ tooLong (r .subframes) (take 16 (drop 10 widths)) → NoneUpTo (over r) 26
-  unfolding tooLong
-  no-subframe p e = none-part (over r) (overAt (r .subframes) (take 16 (drop 10 widths))) 10 16 at-subframe p (rw long at e)
-
--- the two fields of one bit
-module _ (r : Record) where
-  pub sp-over : NoneUpTo (over r) 26 → 1 < r .sp → 27 ≡ tooLarge r
+  pub as-record : {n : ℕ} → n ≡ lowest (overBy indices) 28 → n ≡ tooLarge r
   unfolding tooLarge
-  sp-over p h = none-found (over r) 28 p (omega arith) (le-leb 2 (r .sp) h)
+  as-record w = w ∙ lowest-same (overBy indices) (over r) 28 same-over
 
-  pub sp-fits : NoneUpTo (over r) 26 → r .sp ≤ 1 → NoneUpTo (over r) 27
-  sp-fits p h = none-more (over r) p (lt-leb 2 (r .sp) (omega arith))
+-- the loop: the widths are those of the fields, and no index of the first i fields is too large
+pub record Passed (indices ws : List ℕ) (i : ℕ) : Type 0 where
+  pub wide : ws ≡ widths
+  pub fit : NoneUpTo (overBy indices) i
 
-  pub sy-over : NoneUpTo (over r) 27 → 1 < r .sy → 28 ≡ tooLarge r
-  unfolding tooLarge
-  sy-over p h = none-found (over r) 28 p (omega arith) (le-leb 2 (r .sy) h)
+pub none-passed : (indices : List ℕ) → Passed indices widths 0
+none-passed indices = record { wide = refl; fit = none-yet (overBy indices) }
 
-  pub all-fit : NoneUpTo (over r) 27 → r .sy ≤ 1 → 0 ≡ tooLarge r
-  unfolding tooLarge
-  all-fit p h = none-at-all (over r) 28 (none-more (over r) p (lt-leb 2 (r .sy) (omega arith))) (omega arith)
+module _ {indices ws : List ℕ} {i : ℕ} (s : Passed indices ws i) where
+  pub shift-small : i < 28 → getD ws i 0 < 16
+  shift-small h = rw (s .wide) (widths-small i h)
+
+  -- place i of both lists is that of field i + 1
+  over-here : overBy indices (i + 1) ≡ leb (2 ^ getD ws i 0) (getD indices i 0)
+  over-here = rw (add-sub-cancel i 1, s .wide) refl
+
+  -- one field more whose index fits
+  pub one-passed : getD indices i 0 / 2 ^ getD ws i 0 ≡ 0 → Passed indices ws (i + 1)
+  one-passed e = record { wide = s .wide; fit = fits-next (overBy indices) (getD indices i 0) (getD ws i 0) over-here (s .fit) e }
+
+  -- the lowest field whose index does not
+  pub found-here : i < 28 → (getD indices i 0 / 2 ^ getD ws i 0 ≡ 0 → ⊥) → i + 1 ≡ lowest (overBy indices) 28
+  found-here h e = wide-next (overBy indices) (getD indices i 0) (getD ws i 0) over-here (s .fit) 28 h e
+
+  -- and none
+  pub none-found-here : 28 ≤ i → 0 ≡ lowest (overBy indices) 28
+  none-found-here h = none-at-all (overBy indices) 28 (s .fit) h

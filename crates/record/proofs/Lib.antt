@@ -1,4 +1,3 @@
-pub mod Over
 pub mod Fields
 pub mod Laws
 pub mod Determined

@@ -3,7 +3,7 @@ use mathlib.Core.Bool.{Bool, cond}
 use mathlib.Core.List.{List, [], _∷_}
 use Prim.Native.Nat.{ℕ, _-_, _^_}
 use lib.Dec.{leb, eqb}
-use lib.ListN.{getD, length}
+use lib.ListN.{getD}
 use Rattle.laws.specs.Lowest.{lowest}
 use Rattle.record.specs.declared.Record.{Record}
 
@@ -11,7 +11,11 @@ use Rattle.record.specs.declared.Record.{Record}
 abbrev pub widths : List ℕ
 widths =
     3 ∷ 4 ∷ 4 ∷ 4 ∷ 4 ∷ 3 ∷ 3 ∷ 3 ∷ 3 ∷ 3 ∷
-    8 ∷ 5 ∷ 9 ∷ 5 ∷ 6 ∷ 5 ∷ 9 ∷ 5 ∷ 8 ∷ 5 ∷ 9 ∷ 5 ∷ 6 ∷ 5 ∷ 9 ∷ 5 ∷ 1 ∷ 1 ∷ []
+    8 ∷ 5 ∷ 9 ∷ 5 ∷
+    6 ∷ 5 ∷ 9 ∷ 5 ∷
+    8 ∷ 5 ∷ 9 ∷ 5 ∷
+    6 ∷ 5 ∷ 9 ∷ 5 ∷
+    1 ∷ 1 ∷ []
 
 -- the width of field i
 abbrev pub widthOf : ℕ → ℕ
@@ -20,7 +24,9 @@ widthOf i = getD widths (i - 1) 0
 -- the index in field i
 abbrev pub indexOf : Record → ℕ → ℕ
 indexOf r i =
-    cond (leb i 10) (getD (r .lsp) (i - 1) 0) (cond (leb i 26) (getD (r .subframes) (i - 11) 0) (cond (eqb i 27) (r .sp) (r .sy)))
+    cond (leb i 10) (getD (r .lsp) (i - 1) 0)
+    (cond (leb i 26) (getD (r .subframes) (i - 11) 0)
+    (cond (eqb i 27) (r .sp) (r .sy)))
 
 -- the index in field i does not fit its width
 abbrev pub over : Record → ℕ → Bool
@@ -29,11 +35,3 @@ over r i = leb (2 ^ widthOf i) (indexOf r i)
 -- the lowest field whose index is too large, or 0
 unfoldable pub tooLarge : Record → ℕ
 tooLarge r = lowest (over r) 28
-
--- in a list of indices and a list of widths, place i counted from 1 has an index that does not fit
-abbrev pub overAt : List ℕ → List ℕ → ℕ → Bool
-overAt xs ws i = leb (2 ^ getD ws (i - 1) 0) (getD xs (i - 1) 0)
-
--- the lowest such place, or 0
-unfoldable pub tooLong : List ℕ → List ℕ → ℕ
-tooLong xs ws = lowest (overAt xs ws) (length xs)

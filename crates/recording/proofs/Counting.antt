@@ -1,151 +1,79 @@
--- The loop that counts repaired frames and sync breaks, and what is said of a whole recording.
+-- What one frame counts, and what the first frames count together.
 -- Assumes nothing.
 use mathlib.Core.Path.{_≡_, _∙_, sym, refl, ap}
 use mathlib.Core.Bool.{Bool, true, false, cond}
-use mathlib.Core.List.{List, _∷_}
-use Prim.Native.Nat.{ℕ, suc, _+_, _-_, _%_, _≤_}
+use mathlib.Core.List.{List}
+use Prim.Native.Nat.{ℕ, _+_, _%_, _≤_}
 use native.Mathlib.Omega.{arith}
-use native.Mathlib.Numerals.{add-one}
-use native.Mathlib.Nat.{add-zero}
 use borrow.Author.Tests.{eq-eqb, ne-eqb}
 use lib.Dec.{eqb}
-use lib.ListN.{length}
-use Rattle.frame.specs.Answers.{readingOf}
+use Rattle.laws.proofs.Total.{total-more, total-most}
+use Rattle.laws.specs.Total.{total}
+use Rattle.frame.specs.Answers.{readingOf, correctionNumber}
 use Rattle.frame.specs.declared.Reading.{Reading}
-use Rattle.blocks.specs.Blocks.{part}
-use Rattle.blocks.specs.Walk.{longest, walkedOf}
-use Rattle.blocks.specs.Frames.{afterHead, framesOf, foundAt, framesFrom}
-use Rattle.blocks.specs.declared.Cause.{Cause}
-use Rattle.blocks.specs.declared.Heading.{Heading}
-use Rattle.blocks.specs.declared.Walked.{Walked}
-use Rattle.blocks.specs.declared.Walked.the-variants as Walked
-use Rattle.blocks.specs.declared.Found.the-variants.{At, Nothing}
-use Rattle.blocks.proofs.Frames.{Within, found-within, frames-none, frames-more, frames-whole}
-use Rattle.recording.specs.Judged.{repairBy, repairedIn, syncAt, breakBy, breaksFrom, countsOf, judgedBy, judgedOf}
+use Rattle.recording.specs.Counted.{repairBy, syncAt, breakBy, counting, frameAt, countsTo}
 use Rattle.recording.specs.declared.Counts.{Counts}
-use Rattle.recording.specs.declared.Judged.the-variants.{Sound, Refused}
 
--- the loop that counts: what was counted and what is left make the counts of all frames
-pub record Counting (s : List ℕ) (at left count repaired breaks : ℕ) : Type 0 where
-  pub repairs : repaired + repairedIn (framesFrom s at left) ≡ repairedIn (framesFrom s afterHead 0)
-  pub syncs : breaks + breaksFrom (suc count) (framesFrom s at left) ≡ breaksFrom 1 (framesFrom s afterHead 0)
-  pub few : repaired ≤ count
-  pub seldom : breaks ≤ count
-  pub passed : count ≤ at
-  pub short : at ≤ longest
+-- the returns of `repair_by`: 0 where the number is 0, or else 1
+module _ (r : Reading) where
+  pub repair-none : {n : ℕ} → n ≡ correctionNumber r → n ≡ 0 → 0 ≡ repairBy r
+  repair-none is z = rw (eq-eqb (correctionNumber r) 0 (sym is ∙ z))
 
-pub counting-start : (s : List ℕ) → Counting s afterHead 0 0 0 0
-counting-start s =
-    record { repairs = omega arith; syncs = omega arith; few = omega arith; seldom = omega arith; passed = omega arith; short = omega arith }
+  pub repair-one : {n : ℕ} → n ≡ correctionNumber r → (n ≡ 0 → ⊥) → 1 ≡ repairBy r
+  repair-one is z = rw (ne-eqb (correctionNumber r) 0 (λ e. z (is ∙ e)))
 
--- the returns of `repair_by` and `break_by`
-pub repair-none : (number : ℕ) → number ≡ 0 → 0 ≡ repairBy number
-repair-none number z = rw (eq-eqb number 0 z)
+-- the returns of `break_by`: 0 where SY is 0 at an odd number or 1 at an even one, or else 1
+module _ (n : ℕ) (r : Reading) where
+  pub odd-none : n % 2 ≡ 1 → r .indices .sy ≡ 0 → 0 ≡ breakBy n r
+  odd-none o e = rw (eq-eqb (n % 2) 1 o, eq-eqb (r .indices .sy) 0 e)
 
-pub repair-one : (number : ℕ) → (number ≡ 0 → ⊥) → 1 ≡ repairBy number
-repair-one number z = rw (ne-eqb number 0 z)
+  pub odd-one : n % 2 ≡ 1 → (r .indices .sy ≡ 0 → ⊥) → 1 ≡ breakBy n r
+  odd-one o e = rw (eq-eqb (n % 2) 1 o, ne-eqb (r .indices .sy) 0 e)
 
-pub odd-none : (n sy : ℕ) → n % 2 ≡ 1 → sy ≡ 0 → 0 ≡ breakBy n sy
-odd-none n sy o e = rw (eq-eqb (n % 2) 1 o, eq-eqb sy 0 e)
+  pub even-none : (n % 2 ≡ 1 → ⊥) → r .indices .sy ≡ 1 → 0 ≡ breakBy n r
+  even-none o e = rw (ne-eqb (n % 2) 1 o, eq-eqb (r .indices .sy) 1 e)
 
-pub odd-one : (n sy : ℕ) → n % 2 ≡ 1 → (sy ≡ 0 → ⊥) → 1 ≡ breakBy n sy
-odd-one n sy o e = rw (eq-eqb (n % 2) 1 o, ne-eqb sy 0 e)
+  pub even-one : (n % 2 ≡ 1 → ⊥) → (r .indices .sy ≡ 1 → ⊥) → 1 ≡ breakBy n r
+  even-one o e = rw (ne-eqb (n % 2) 1 o, ne-eqb (r .indices .sy) 1 e)
 
-pub even-none : (n sy : ℕ) → (n % 2 ≡ 1 → ⊥) → sy ≡ 1 → 0 ≡ breakBy n sy
-even-none n sy o e = rw (ne-eqb (n % 2) 1 o, eq-eqb sy 1 e)
+-- a frame counts at most once as repaired and at most once as a break
+one-at-most : (b : Bool) → cond b 0 1 ≤ 1
+one-at-most true = omega arith
+one-at-most false = omega arith
 
-pub even-one : (n sy : ℕ) → (n % 2 ≡ 1 → ⊥) → (sy ≡ 1 → ⊥) → 1 ≡ breakBy n sy
-even-one n sy o e = rw (ne-eqb (n % 2) 1 o, ne-eqb sy 1 e)
+pub repair-small : (r : Reading) → repairBy r ≤ 1
+repair-small r = one-at-most (eqb (correctionNumber r) 0)
 
-pub repair-small : (n : ℕ) → repairBy n ≤ 1
-repair-small n = go (eqb n 0)
-  where
-    go : (b : Bool) → cond b 0 1 ≤ 1
-    go true = omega arith
-    go false = omega arith
+pub break-small : (n : ℕ) (r : Reading) → breakBy n r ≤ 1
+break-small n r = one-at-most (eqb (r .indices .sy) (syncAt n))
 
-pub break-small : (n sy : ℕ) → breakBy n sy ≤ 1
-break-small n sy = go (eqb sy (syncAt n))
-  where
-    go : (b : Bool) → cond b 0 1 ≤ 1
-    go true = omega arith
-    go false = omega arith
+-- the return of `Counts::with`
+pub counted : (c : Counts) (n : ℕ) (r : Reading) {more broken : ℕ} → more ≡ repairBy r → broken ≡ breakBy n r
+    → record { repaired = c .repaired + more; breaks = c .breaks + broken } ≡ counting c n r
+counted c n r p q = λ i. record { repaired = c .repaired + p i; breaks = c .breaks + q i }
 
--- the counts of one frame and the rest
-pub repaired-more : (f : List ℕ) (fs : List (List ℕ)) → repairedIn (f ∷ fs) ≡ repairBy (readingOf f .number) + repairedIn fs
-unfolding repairedIn
-repaired-more f fs = refl
+module _ (frames : List (List ℕ)) where
+  -- no frame counts nothing
+  pub counts-none : record { repaired = 0; breaks = 0 } ≡ countsTo frames 0
+  unfolding countsTo total
+  counts-none = refl
 
-pub breaks-more : (n : ℕ) (f : List ℕ) (fs : List (List ℕ)) → breaksFrom n (f ∷ fs) ≡ breakBy n (readingOf f .indices .sy) + breaksFrom (suc n) fs
-unfolding breaksFrom
-breaks-more n f fs = refl
+  -- the counts of one frame more
+  pub counts-more : (k : ℕ) → counting (countsTo frames k) (k + 1) (readingOf (frameAt frames (k + 1))) ≡ countsTo frames (k + 1)
+  unfolding countsTo
+  counts-more k =
+      λ i. record {
+        repaired = sym (total-more (λ n. repairBy (readingOf (frameAt frames n))) k) i;
+        breaks = sym (total-more (λ n. breakBy n (readingOf (frameAt frames n))) k) i;
+      }
 
-module _ {s : List ℕ} {at left count repaired breaks : ℕ} (c : Counting s at left count repaired breaks) where
-  pub counting-done : foundAt s at left ≡ Nothing
-      → record { repaired = repaired; breaks = breaks } ≡ countsOf (framesFrom s afterHead 0)
-  unfolding repairedIn breaksFrom
-  counting-done e =
-      let r : repaired ≡ repairedIn (framesFrom s afterHead 0) = sym (add-zero repaired) ∙ (rw (frames-none s at left e) at (c .repairs)) in
-      let b : breaks ≡ breaksFrom 1 (framesFrom s afterHead 0) = sym (add-zero breaks) ∙ (rw (frames-none s at left e) at (c .syncs)) in
-      λ i. record { repaired = r i; breaks = b i }
+  -- none is counted twice
+  pub repaired-few : (k : ℕ) → countsTo frames k .repaired ≤ k
+  unfolding countsTo
+  repaired-few k =
+      omega (arith, total-most (λ n. repairBy (readingOf (frameAt frames n))) 1 k (λ n a b. repair-small (readingOf (frameAt frames n))))
 
-  module _ (first rest : ℕ) (e : foundAt s at left ≡ At first rest) (long : length s ≤ longest) (r : Reading)
-      (taken : r ≡ readingOf (part s first (first + 18 - first))) where
-    read : r ≡ readingOf (part s first 18)
-    read = let n : first + 18 - first ≡ 18 = omega arith in taken ∙ ap (λ (m : ℕ). readingOf (part s first m)) n
-
-    pub counting-room : first + 18 ≤ longest
-    counting-room = let w = found-within s at left first rest e in omega (arith, w .fits)
-
-    pub counting-on : (more broken : ℕ) → more ≡ repairBy (r .number) → broken ≡ breakBy (count + 1) (r .indices .sy)
-        → Counting s (first + 18) rest (count + 1) (repaired + more) (breaks + broken)
-    counting-on more broken p q =
-        record {
-          repairs = omega (arith, repairs′);
-          syncs = omega (arith, syncs′);
-          few = omega (arith, c .few, small);
-          seldom = omega (arith, c .seldom, little);
-          passed = omega (arith, c .passed, w .on);
-          short = counting-room;
-        }
-      where
-        w : Within s at first
-        w = found-within s at left first rest e
-
-        small : more ≤ 1
-        small = rw p (repair-small (r .number))
-
-        little : broken ≤ 1
-        little = rw q (break-small (count + 1) (r .indices .sy))
-
-        is : framesFrom s at left ≡ part s first 18 ∷ framesFrom s (first + 18) rest
-        is = frames-more s at left first rest e
-
-        repairs′ : repaired + (more + repairedIn (framesFrom s (first + 18) rest)) ≡ repairedIn (framesFrom s afterHead 0)
-        repairs′ =
-            let m = ap repairedIn is ∙ repaired-more (part s first 18) (framesFrom s (first + 18) rest) in
-            let n : more ≡ repairBy (readingOf (part s first 18) .number) = p ∙ ap (λ (x : Reading). repairBy (x .number)) read in
-            omega (arith, c .repairs, m, n)
-
-        syncs′ : breaks + (broken + breaksFrom (suc (count + 1)) (framesFrom s (first + 18) rest)) ≡ breaksFrom 1 (framesFrom s afterHead 0)
-        syncs′ =
-            let m = ap (breaksFrom (suc count)) is ∙ breaks-more (suc count) (part s first 18) (framesFrom s (first + 18) rest) in
-            let n : broken ≡ breakBy (suc count) (readingOf (part s first 18) .indices .sy)
-            = q ∙ ap (λ (x : Reading). breakBy (count + 1) (x .indices .sy)) read
-            ∙ ap (λ (k : ℕ). breakBy k (readingOf (part s first 18) .indices .sy)) (add-one count) in
-            let k : breaksFrom (suc (count + 1)) (framesFrom s (first + 18) rest) ≡ breaksFrom (suc (suc count)) (framesFrom s (first + 18) rest)
-            = ap (λ (j : ℕ). breaksFrom (suc j) (framesFrom s (first + 18) rest)) (add-one count) in
-            omega (arith, c .syncs, m, n, k)
-
--- the returns of `judge`
-pub judge-refused : (s : List ℕ) (cause : Cause) → walkedOf s ≡ Walked.Refused cause → Refused cause ≡ judgedOf s
-unfolding judgedOf
-judge-refused s cause e = sym (ap (λ (w : Walked). judgedBy w (framesOf s)) e)
-
-pub judge-sound : (s : List ℕ) (h : Heading) (t : Counts) → walkedOf s ≡ Walked.Whole h → t ≡ countsOf (framesFrom s afterHead 0)
-    → Sound (record { unit = h .unit; number = h .number; frames = h .frames; repaired = t .repaired; breaks = t .breaks }) ≡ judgedOf s
-unfolding judgedOf
-judge-sound s h t e c =
-    ap (λ (x : Counts). Sound (record { unit = h .unit; number = h .number; frames = h .frames; repaired = x .repaired; breaks = x .breaks })) c
-    ∙ ap (judgedBy (Walked.Whole h)) (sym (frames-whole s h e))
-    ∙ sym (ap (λ (w : Walked). judgedBy w (framesOf s)) e)
+  pub breaks-few : (k : ℕ) → countsTo frames k .breaks ≤ k
+  unfolding countsTo
+  breaks-few k =
+      omega (arith, total-most (λ n. breakBy n (readingOf (frameAt frames n))) 1 k (λ n a b. break-small n (readingOf (frameAt frames n))))

@@ -8,35 +8,34 @@ use Rattle.recording.proofs.judge.Kinds as judge
 use Rattle.recording.proofs.judge.Reads as judge-reads
 use Rattle.recording.proofs.start.Kinds as start
 use Rattle.recording.proofs.start.Reads as start-reads
+use Rattle.recording.proofs.begin.Kinds as begin
+use Rattle.recording.proofs.begin.Reads as begin-reads
 use Rattle.recording.proofs.next.Kinds as next
 use Rattle.recording.proofs.next.Reads as next-reads
 use Rattle.recording.proofs.frame_heard.Kinds as frame-heard
 use Rattle.recording.proofs.frame_heard.Reads as frame-heard-reads
-use Rattle.recording.proofs.repair_by.Kinds as repair-by
-use Rattle.recording.proofs.repair_by.Reads as repair-by-reads
-use Rattle.recording.proofs.break_by.Kinds as break-by
-use Rattle.recording.proofs.break_by.Reads as break-by-reads
 
-pub judge-determined : (κs : Lfts 1) (a : Dens κs judge.ps) (r₁ r₂ : resT judge.r κs .Denot) (x₁ x₂ : AtExit (endedOf 1 judge.ps judge.r) κs)
+pub judge-determined : (κs : Lfts 1) (a : Dens κs judge.ps) (r₁ r₂ : resT judge.r κs .Denot)
+    (x₁ x₂ : AtExit (endedOf 1 judge.ps judge.r) κs)
     → judge-reads.Post κs a r₁ x₁ → judge-reads.Post κs a r₂ x₂ → r₁ ≡ r₂
 judge-determined κs a r₁ r₂ x₁ x₂ p q = p ∙ sym q
 
-pub start-determined : (κs : Lfts 1) (a : Dens κs start.ps) (r₁ r₂ : resT start.r κs .Denot) (x₁ x₂ : AtExit (endedOf 1 start.ps start.r) κs)
+pub start-determined : (κs : Lfts 1) (a : Dens κs start.ps) (r₁ r₂ : resT start.r κs .Denot)
+    (x₁ x₂ : AtExit (endedOf 1 start.ps start.r) κs)
     → start-reads.Post κs a r₁ x₁ → start-reads.Post κs a r₂ x₂ → r₁ ≡ r₂
 start-determined κs a r₁ r₂ x₁ x₂ p q = p ∙ sym q
 
-pub next-determined : (κs : Lfts 1) (a : Dens κs next.ps) (r₁ r₂ : resT next.r κs .Denot) (x₁ x₂ : AtExit (endedOf 1 next.ps next.r) κs)
+pub begin-determined : (κs : Lfts 0) (a : Dens κs begin.ps) (r₁ r₂ : resT begin.r κs .Denot)
+    (x₁ x₂ : AtExit (endedOf 0 begin.ps begin.r) κs)
+    → begin-reads.Post κs a r₁ x₁ → begin-reads.Post κs a r₂ x₂ → r₁ ≡ r₂
+begin-determined κs a r₁ r₂ x₁ x₂ p q = p ∙ sym q
+
+pub next-determined : (κs : Lfts 1) (a : Dens κs next.ps) (r₁ r₂ : resT next.r κs .Denot)
+    (x₁ x₂ : AtExit (endedOf 1 next.ps next.r) κs)
     → next-reads.Post κs a r₁ x₁ → next-reads.Post κs a r₂ x₂ → r₁ ≡ r₂
 next-determined κs a r₁ r₂ x₁ x₂ p q = p ∙ sym q
 
-pub frame-heard-determined : (κs : Lfts 1) (a : Dens κs frame-heard.ps) (r₁ r₂ : resT frame-heard.r κs .Denot) (x₁ x₂ : AtExit (endedOf 1 frame-heard.ps frame-heard.r) κs)
+pub frame-heard-determined : (κs : Lfts 1) (a : Dens κs frame-heard.ps) (r₁ r₂ : resT frame-heard.r κs .Denot)
+    (x₁ x₂ : AtExit (endedOf 1 frame-heard.ps frame-heard.r) κs)
     → frame-heard-reads.Post κs a r₁ x₁ → frame-heard-reads.Post κs a r₂ x₂ → r₁ ≡ r₂
 frame-heard-determined κs a r₁ r₂ x₁ x₂ p q = p ∙ sym q
-
-pub repair-by-determined : (κs : Lfts 0) (a : Dens κs repair-by.ps) (r₁ r₂ : resT repair-by.r κs .Denot) (x₁ x₂ : AtExit (endedOf 0 repair-by.ps repair-by.r) κs)
-    → repair-by-reads.Post κs a r₁ x₁ → repair-by-reads.Post κs a r₂ x₂ → r₁ ≡ r₂
-repair-by-determined κs a r₁ r₂ x₁ x₂ p q = p ∙ sym q
-
-pub break-by-determined : (κs : Lfts 0) (a : Dens κs break-by.ps) (r₁ r₂ : resT break-by.r κs .Denot) (x₁ x₂ : AtExit (endedOf 0 break-by.ps break-by.r) κs)
-    → break-by-reads.Post κs a r₁ x₁ → break-by-reads.Post κs a r₂ x₂ → r₁ ≡ r₂
-break-by-determined κs a r₁ r₂ x₁ x₂ p q = p ∙ sym q

@@ -1,32 +1,21 @@
-// The frames of a recording in order: how many are repaired or break the sync, and each one heard with the running state.
-// A pass stands before a frame and keeps the state after those that it has passed.
+// The frames of a recording in order: each one heard with the running state, and how many are repaired or break the sync.
+// A pass stands before a frame and keeps the counts and the state of those that it has passed; one step takes it past the next.
 use blocks::Cause;
+use blocks::Ending;
 use blocks::Found;
-use blocks::Walked;
+use blocks::Heading;
+use blocks::Walk;
 use frame::Reading;
 use values::State;
 use values::Values;
 ghost use mathlib.Core.Path.{_≡_};
 ghost use Prim.Native.Nat.{_≤_};
-ghost use lib.ListN.{length};
+ghost use Rattle.values.specs.Values.{freshState};
 ghost use Rattle.blocks.specs.Walk.{longest};
-ghost use Rattle.blocks.specs.Frames.{afterHead, framesFrom};
-ghost use Rattle.recording.specs.Judged.{repairBy, breakBy, judgedOf, countsOf};
-ghost use Rattle.recording.specs.Pass.{heardIn, nothingHeard, startOf, nextOf, heardAt};
-
-// A sound recording told in numbers.
-pub struct Summary {
-    pub unit: u32,
-    pub number: u32,
-    pub frames: u32,
-    pub repaired: u32,
-    pub breaks: u32,
-}
-
-pub enum Judged {
-    Sound(Summary),
-    Refused(Cause),
-}
+ghost use Rattle.blocks.specs.Frames.{framesOf};
+ghost use Rattle.recording.specs.Counted.{repairBy, breakBy, counting, countsOf};
+ghost use Rattle.recording.specs.Judged.{judgedOf};
+ghost use Rattle.recording.specs.Pass.{hearingOf, noHearing, frameHeard, begunAt, startOf, aheadOf, pastFrame, nextOf};
 
 // Repaired frames and sync breaks.
 pub struct Counts {
@@ -34,31 +23,37 @@ pub struct Counts {
     pub breaks: u32,
 }
 
-// Whether there was a frame.
-pub enum Got {
-    Frame,
-    Done,
+// A sound recording told in numbers: what its head tells, how many frames it has, and their counts.
+pub struct Summary {
+    pub heading: Heading,
+    pub frames: u32,
+    pub counts: Counts,
 }
 
-// What is heard of a frame: what was read in it, and the values of what was read.
-pub struct Heard {
-    pub got: Got,
+pub enum Judged {
+    Sound(Summary),
+    Refused(Cause),
+}
+
+// What is heard of a frame: what was read in it, and the values of what was read. Where there is no frame, the outcome is `Nothing`.
+pub struct Hearing {
     pub reading: Reading,
     pub values: Values,
 }
 
 // A pass through the frames: the place of the next one, how many bytes of its voice block are left there, how many frames were
-// passed, and the state after them.
+// passed, their counts, and the state after them.
 pub struct Pass {
     pub at: usize,
     pub left: usize,
-    pub frame: usize,
+    pub frames: u32,
+    pub counts: Counts,
     pub state: State,
 }
 
 // One frame of a pass, and the pass after it.
 pub struct Step {
-    pub heard: Heard,
+    pub hearing: Hearing,
     pub pass: Pass,
 }
 
@@ -66,62 +61,209 @@ pub struct Step {
 pub fn judge(s: &[u8]) -> Judged
     ensures { λ r. ⌜ r ≡ judgedOf (now (s .entry)) ⌝ }
 {
-    match blocks::walk_through(s) {
-        Walked::Refused(cause) => Judged::Refused(cause),
-        Walked::Whole(heading) => {
-            let counts = count_frames(s);
+    let walked = blocks::walk_through(s);
+    let walk = walked.walk;
+    let ending = walked.ending;
+    match ending {
+        Ending::Refused(cause) => Judged::Refused(cause),
+        Ending::Sound => {
+            let counts = count_frames(s, begin(walk, State::fresh()));
+            let heading = walk.heading;
+            let frames = walk.frames;
             Judged::Sound(Summary {
-                unit: heading.unit,
-                number: heading.number,
-                frames: heading.frames,
-                repaired: counts.repaired,
-                breaks: counts.breaks,
+                heading,
+                frames,
+                counts,
             })
         }
     }
 }
 
-// The counts of all frames.
-fn count_frames(s: &[u8]) -> Counts
-    requires { ⌜ length (now s) ≤ longest ⌝ }
-    ensures { λ r. ⌜ r ≡ countsOf (framesFrom (now (s .entry)) afterHead 0) ⌝ }
+// The counts of all frames, by a pass before the first.
+fn count_frames(s: &[u8], start: Pass) -> Counts
+    requires { ⌜ start ≡ startOf (start .state) (now s) ⌝ }
+    ensures { λ r. ⌜ r ≡ countsOf (framesOf (now (s .entry))) ⌝ }
 {
-    let mut at = 14;
-    let mut left = 0;
-    let mut count: u32 = 0;
-    let mut repaired: u32 = 0;
-    let mut breaks: u32 = 0;
+    let mut pass = start;
     loop {
-        match blocks::find(s, at, left) {
-            Found::Nothing => return Counts { repaired, breaks },
-            Found::At(first, rest) => {
-                let end = first + 18;
-                let reading = frame::read(&s[first..end]);
-                count += 1;
-                repaired += repair_by(reading.number);
-                breaks += break_by(count, reading.indices.sy);
-                at = end;
-                left = rest;
+        let step = next(s, pass);
+        let after = step.pass;
+        if after.frames == pass.frames {
+            return after.counts;
+        }
+        pass = after;
+    }
+}
+
+// A pass before the first frame of a recording, after a state; one at its end where the recording is refused.
+pub fn start(s: &[u8], state: State) -> Pass
+    ensures { λ r. ⌜ r ≡ startOf state (now (s .entry)) ⌝ }
+{
+    let walked = blocks::walk_through(s);
+    let walk = walked.walk;
+    let ending = walked.ending;
+    match ending {
+        Ending::Sound => begin(walk, state),
+        Ending::Refused(_) => Pass::begun(s.len(), state),
+    }
+}
+
+// A pass before the first frame of a recording whose blocks were walked, after a state.
+pub fn begin(walk: Walk, state: State) -> Pass
+    ensures { λ r. ⌜ r ≡ begunAt (walk .voices) state ⌝ }
+{
+    Pass::begun(walk.voices, state)
+}
+
+// The next frame of any pass through any bytes.
+pub fn next(s: &[u8], pass: Pass) -> Step
+    ensures { λ r. ⌜ r ≡ nextOf (now (s .entry)) pass ⌝ }
+{
+    let state = pass.state;
+    match pass.ahead(s) {
+        Found::Nothing => {
+            let hearing = Hearing::nothing(s, state);
+            Step { hearing, pass }
+        }
+        Found::At(first, rest) => {
+            let end = first + 18;
+            let hearing = Hearing::of(&s[first..end], state);
+            let after = pass.past(hearing, end, rest);
+            Step {
+                hearing,
+                pass: after,
             }
         }
     }
 }
 
-// 1 for a repaired frame, by its correction number.
-pub fn repair_by(number: usize) -> u32
-    ensures { λ r. ⌜ r ≡ repairBy number ⌝ }
+// Frame k of a recording, counted from 1, heard after all the frames before it.
+pub fn frame_heard(s: &[u8], k: usize) -> Hearing
+    ensures { λ r. ⌜ r ≡ frameHeard freshState (framesOf (now (s .entry))) k ⌝ }
 {
+    let fresh = State::fresh();
+    if k == 0 {
+        return Hearing::nothing(s, fresh);
+    }
+    let mut pass = start(s, fresh);
+    loop {
+        let step = next(s, pass);
+        let after = step.pass;
+        let passed = after.frames as usize;
+        if passed == k {
+            return step.hearing;
+        }
+        if after.frames == pass.frames {
+            return step.hearing;
+        }
+        pass = after;
+    }
+}
+
+impl Hearing {
+    // What is heard of any bytes taken for a frame, after a state.
+    fn of(bytes: &[u8], before: State) -> Hearing
+        ensures { λ r. ⌜ r ≡ hearingOf before (now (bytes .entry)) ⌝ }
+    {
+        let reading = frame::read(bytes);
+        let values = values::values_of(reading.indices, before);
+        Hearing { reading, values }
+    }
+
+    // What is heard where there is no frame.
+    fn nothing(s: &[u8], before: State) -> Hearing
+        ensures { λ r. ⌜ r ≡ noHearing before ⌝ }
+    {
+        let reading = frame::read(&s[..0]);
+        let values = Values::nothing(before);
+        Hearing { reading, values }
+    }
+}
+
+impl Pass {
+    // A pass before the frame at a place, with no frame passed.
+    fn begun(at: usize, state: State) -> Pass
+        ensures { λ r. ⌜ r ≡ begunAt at state ⌝ }
+    {
+        Pass {
+            at,
+            left: 0,
+            frames: 0,
+            counts: Counts {
+                repaired: 0,
+                breaks: 0,
+            },
+            state,
+        }
+    }
+
+    // Where the next frame stands. A pass that was not begun here is at its end.
+    fn ahead(self, s: &[u8]) -> Found
+        ensures { λ r. ⌜ r ≡ aheadOf (now (s .entry)) self ⌝ }
+    {
+        let passed = self.frames;
+        if 65536 < passed {
+            return Found::Nothing;
+        }
+        if passed < self.counts.repaired {
+            return Found::Nothing;
+        }
+        if passed < self.counts.breaks {
+            return Found::Nothing;
+        }
+        blocks::find(s, self.at, self.left)
+    }
+
+    // The pass after a frame that was heard, at the place after it.
+    fn past(self, hearing: Hearing, end: usize, left: usize) -> Pass
+        requires { ⌜ self .frames ≤ longest ⌝ }
+        requires { ⌜ self .counts .repaired ≤ longest ⌝ }
+        requires { ⌜ self .counts .breaks ≤ longest ⌝ }
+        ensures { λ r. ⌜ r ≡ pastFrame self hearing end left ⌝ }
+    {
+        let frames = self.frames + 1;
+        let counts = self.counts.with(frames, hearing.reading);
+        let state = hearing.values.state;
+        Pass {
+            at: end,
+            left,
+            frames,
+            counts,
+            state,
+        }
+    }
+}
+
+impl Counts {
+    // These counts with frame n counted too.
+    fn with(self, n: u32, reading: Reading) -> Counts
+        requires { ⌜ self .repaired ≤ longest ⌝ }
+        requires { ⌜ self .breaks ≤ longest ⌝ }
+        ensures { λ r. ⌜ r ≡ counting self n reading ⌝ }
+    {
+        let repaired = self.repaired + repair_by(reading);
+        let breaks = self.breaks + break_by(n, reading);
+        Counts { repaired, breaks }
+    }
+}
+
+// 1 for a repaired frame.
+fn repair_by(reading: Reading) -> u32
+    ensures { λ r. ⌜ r ≡ repairBy reading ⌝ }
+{
+    let number = reading.correction_number();
     if number == 0 {
         return 0;
     }
     1
 }
 
-// 1 for a sync break, by the frame's number and its SY.
-pub fn break_by(count: u32, sy: u16) -> u32
-    ensures { λ r. ⌜ r ≡ breakBy count sy ⌝ }
+// 1 for a sync break at frame n.
+fn break_by(n: u32, reading: Reading) -> u32
+    ensures { λ r. ⌜ r ≡ breakBy n reading ⌝ }
 {
-    if count % 2 == 1 {
+    let sy = reading.indices.sy;
+    if n % 2 == 1 {
         if sy == 0 {
             return 0;
         }
@@ -131,112 +273,4 @@ pub fn break_by(count: u32, sy: u16) -> u32
         return 0;
     }
     1
-}
-
-// A pass before the first frame of a recording; one at its end where the recording is refused.
-pub fn start(s: &[u8]) -> Pass
-    ensures { λ r. ⌜ r ≡ startOf (now (s .entry)) ⌝ }
-{
-    let state = State::fresh();
-    match blocks::walk_through(s) {
-        Walked::Whole(_) => Pass {
-            at: 14,
-            left: 0,
-            frame: 0,
-            state,
-        },
-        Walked::Refused(_) => Pass {
-            at: s.len(),
-            left: 0,
-            frame: 0,
-            state,
-        },
-    }
-}
-
-// The next frame of any pass through any bytes.
-pub fn next(s: &[u8], p: Pass) -> Step
-    ensures { λ r. ⌜ r ≡ nextOf (now (s .entry)) p ⌝ }
-{
-    let at = p.at;
-    let left = p.left;
-    let passed = p.frame;
-    if at < passed {
-        let heard = nothing_heard(s);
-        return Step { heard, pass: p };
-    }
-    match blocks::find(s, at, left) {
-        Found::Nothing => {
-            let heard = nothing_heard(s);
-            Step { heard, pass: p }
-        }
-        Found::At(first, rest) => {
-            let end = first + 18;
-            let heard = hear(&s[first..end], p.state);
-            let state = heard.values.state;
-            let frame = passed + 1;
-            Step {
-                heard,
-                pass: Pass {
-                    at: end,
-                    left: rest,
-                    frame,
-                    state,
-                },
-            }
-        }
-    }
-}
-
-// Frame k of a recording, counted from 1, heard after all the frames before it.
-pub fn frame_heard(s: &[u8], k: usize) -> Heard
-    ensures { λ r. ⌜ r ≡ heardAt (now (s .entry)) k ⌝ }
-{
-    if k == 0 {
-        return nothing_heard(s);
-    }
-    let mut pass = start(s);
-    let mut ahead = k - 1;
-    loop {
-        let step = next(s, pass);
-        let heard = step.heard;
-        if ahead == 0 {
-            return heard;
-        }
-        let got = heard.got;
-        match got {
-            Got::Done => return heard,
-            Got::Frame => {
-                pass = step.pass;
-                ahead -= 1;
-            }
-        }
-    }
-}
-
-// What is heard of any bytes taken for a frame, after a state.
-fn hear(bytes: &[u8], before: State) -> Heard
-    ensures { λ r. ⌜ r ≡ heardIn before (now (bytes .entry)) ⌝ }
-{
-    let reading = frame::read(bytes);
-    let values = values::values_of(reading.indices, before);
-    Heard {
-        got: Got::Frame,
-        reading,
-        values,
-    }
-}
-
-// What is heard where there is no frame.
-fn nothing_heard(s: &[u8]) -> Heard
-    ensures { λ r. ⌜ r ≡ nothingHeard ⌝ }
-{
-    let heard = hear(&s[..0], State::fresh());
-    let reading = heard.reading;
-    let values = heard.values;
-    Heard {
-        got: Got::Done,
-        reading,
-        values,
-    }
 }

@@ -2,30 +2,41 @@
 -- Assumes nothing.
 use mathlib.Core.Path.{_≡_, _∙_, sym, refl, ap, subst}
 use mathlib.Core.Bool.{true, false}
-use mathlib.Core.List.{List}
-use Prim.Native.Nat.{ℕ, zero, suc, _+_, _*_, _-_, _<_, _≤_}
+use mathlib.Core.List.{List, [], _∷_}
+use Prim.Native.Nat.{ℕ, zero, suc, _+_, _*_, _-_, _^_, _<_, _≤_}
 use native.Mathlib.Omega.{arith}
-use borrow.Author.Tests.{eq-eqb, ne-eqb}
-use lib.Dec.{eqb}
-use lib.IntN.{pos}
-use lib.ListN.{getD}
-use Rattle.record.specs.Fields.{tooLarge}
+use native.Mathlib.Nat.{add-sub-cancel}
+use borrow.Author.Tests.{eq-eqb, ne-eqb, le-leb}
+use lib.Dec.{eqb, eqb→eq}
+use lib.IntN.{ℤ, pos}
+use lib.ListN.{getD, length}
+use Rattle.laws.specs.Tabulate.{tabulate}
+use Rattle.laws.proofs.Cases.{of-four}
+use Rattle.laws.proofs.Table.{at}
+use Rattle.laws.proofs.Tabulate.{length-tabulate, getD-tabulate}
+use Rattle.record.specs.Fields.{widths, widthOf, indexOf, tooLarge}
 use Rattle.record.specs.declared.Record.{Record}
 use Rattle.record.proofs.Laws.{none-too-large}
-use Rattle.gains.specs.Tables.{plus, minus, cgTable, pgTable}
-use Rattle.gains.proofs.Laws.{Ranged, cg-range, pg-range}
-use Rattle.delays.proofs.Laws.{heard-within}
-use Rattle.lsp.specs.Table.{lsp, hertzOf}
+use Rattle.gains.specs.Tables.{cgTable, pgTable}
+use Rattle.gains.specs.Gains.{gainOf}
+use Rattle.gains.specs.declared.Gain.the-variants as Gain
+use Rattle.gains.proofs.Laws.{gain-value}
+use Rattle.delays.specs.Codes.{fourMeant, meantBy}
+use Rattle.delays.specs.declared.Meant.{Meant}
+use Rattle.delays.specs.declared.Meant.the-variants as Meant
+use Rattle.delays.proofs.Laws.{Fit, fit-meant, meant-within}
+use Rattle.lsp.specs.Table as hertz
+use Rattle.lsp.specs.Table.{bits, lsp, column}
 use Rattle.lsp.specs.Order.{markOf}
 use Rattle.lsp.specs.Average.{averageAt, averagesOf}
-use Rattle.laws.proofs.Cases.{of-four}
-use Rattle.lsp.proofs.Laws.{averages-at, averages-same, hertz-within}
+use Rattle.lsp.proofs.Laws.{all-fit, hertz-at, averages-at, averages-same}
 use Rattle.values.specs.declared.State.{State}
 use Rattle.values.specs.declared.Values.{Values}
 use Rattle.values.specs.declared.Outcome.{Outcome}
-use Rattle.values.specs.declared.Outcome.the-variants.{Heard, TooLarge, Expansion}
-use Rattle.values.specs.Outcome.{outcomeOf, refusalOf}
-use Rattle.values.specs.Values.{pgIndex, cgIndex, inSubframes, delaysOf, presentOf, freshState, stateAfter, previousOf, heardValues, refusedValues, valuesOf}
+use Rattle.values.specs.declared.Outcome.the-variants.{Heard, TooLarge, Expansion, Nothing}
+use Rattle.values.specs.Outcome.{outcomeOf, isHeard}
+use Rattle.values.specs.Values.{pdIndex, pgIndex, cgIndex, inSubframes, delaysIn, delaysOf, valueIn, presentOf, usedOf}
+use Rattle.values.specs.Values.{freshState, stateAfter, previousOf, heardValues, refusedValues, nothingHeard, valuesOf}
 
 -- ---- the outcome
 
@@ -39,6 +50,9 @@ expansion-not-heard e = let z : _≡_ {A = ℕ} 0 1 = cc in omega arith
 expansion-not-too-large : (field : ℕ) → Expansion ≡ TooLarge field → ⊥
 expansion-not-too-large field e = let z : _≡_ {A = ℕ} 0 1 = cc in omega arith
 
+pub nothing-not-heard : Nothing ≡ Heard → ⊥
+nothing-not-heard e = let z : _≡_ {A = ℕ} 0 1 = cc in omega arith
+
 same-field : (f g : ℕ) → TooLarge f ≡ TooLarge g → f ≡ g
 same-field f g e = cc
 
@@ -48,17 +62,17 @@ module _ (r : Record) where
   unfolding outcomeOf
   outcome-too-large h = rw (ne-eqb (tooLarge r) 0 (λ z. omega arith))
 
-  -- then SP is 1
-  pub outcome-expansion : tooLarge r ≡ 0 → r .sp ≡ 1 → outcomeOf r ≡ Expansion
+  -- then SP is not 0
+  pub outcome-set : tooLarge r ≡ 0 → (r .sp ≡ 0 → ⊥) → outcomeOf r ≡ Expansion
   unfolding outcomeOf
-  outcome-expansion z e = rw (eq-eqb (tooLarge r) 0 z, eq-eqb (r .sp) 1 e)
+  outcome-set z w = rw (eq-eqb (tooLarge r) 0 z, ne-eqb (r .sp) 0 w)
 
-  pub heard-unless-one : tooLarge r ≡ 0 → (r .sp ≡ 1 → ⊥) → outcomeOf r ≡ Heard
-  unfolding outcomeOf
-  heard-unless-one z w = rw (eq-eqb (tooLarge r) 0 z, ne-eqb (r .sp) 1 w)
+  pub outcome-expansion : tooLarge r ≡ 0 → r .sp ≡ 1 → outcomeOf r ≡ Expansion
+  outcome-expansion z e = outcome-set z (λ o. omega arith)
 
   pub outcome-heard : tooLarge r ≡ 0 → r .sp ≡ 0 → outcomeOf r ≡ Heard
-  outcome-heard z e = heard-unless-one z (λ o. omega arith)
+  unfolding outcomeOf
+  outcome-heard z e = rw (eq-eqb (tooLarge r) 0 z, eq-eqb (r .sp) 0 e)
 
   -- there is no fourth: an SP that fits its field is 0 or 1
   pub by-outcome : (p : Outcome → Type 0) → (tooLarge r ≡ 0 → r .sp ≡ 0 → p Heard) → (1 ≤ tooLarge r → p (TooLarge (tooLarge r)))
@@ -84,6 +98,12 @@ module _ (r : Record) where
       by-outcome (λ o. o ≡ Heard → (tooLarge r ≡ 0) × (r .sp ≡ 0)) (λ z s e. (z, s)) (λ h e. absurd (too-large-not-heard _ e))
       (λ z s e. absurd (expansion-not-heard e))
 
+  -- some record was there
+  pub never-nothing : outcomeOf r ≡ Nothing → ⊥
+  never-nothing =
+      by-outcome (λ o. o ≡ Nothing → ⊥) (λ z s e. nothing-not-heard (sym e)) (λ h e. let z : _≡_ {A = ℕ} 0 1 = cc in omega arith)
+      (λ z s e. let z : _≡_ {A = ℕ} 0 1 = cc in omega arith)
+
   -- a field is told only when it is the lowest with an index too large
   pub too-large-is : (f : ℕ) → outcomeOf r ≡ TooLarge f → (1 ≤ tooLarge r) × (f ≡ tooLarge r)
   too-large-is f =
@@ -96,23 +116,34 @@ module _ (r : Record) where
       by-outcome (λ o. o ≡ Expansion → (tooLarge r ≡ 0) × (r .sp ≡ 1)) (λ z s e. absurd (expansion-not-heard (sym e)))
       (λ h e. absurd (expansion-not-too-large _ (sym e))) (λ z s e. (z, s))
 
--- ---- a refused record
+-- ---- nothing heard
+
+-- what is not heard has no values
+not-heard : (o : Outcome) → (o ≡ Heard → ⊥) → isHeard o ≡ false
+not-heard Heard w = absurd (w refl)
+not-heard (TooLarge f) w = refl
+not-heard Expansion w = refl
+not-heard Nothing w = refl
 
 module _ (r : Record) (before : State) (refused : outcomeOf r ≡ Heard → ⊥) where
-  -- it has no values
+  -- a refused record has none
   pub values-refused : valuesOf r before ≡ refusedValues (outcomeOf r) before
   unfolding valuesOf
-  values-refused = rw (number (outcomeOf r) refused)
-    where
-      number : (o : Outcome) → (o ≡ Heard → ⊥) → eqb (refusalOf o) 0 ≡ false
-      number Heard w = absurd (w refl)
-      number (TooLarge f) w = refl
-      number Expansion w = refl
+  values-refused = rw (not-heard (outcomeOf r) refused)
 
   -- and leaves the state as it came
   pub refused-state : valuesOf r before .state ≡ before
   unfolding refusedValues
   refused-state = ap (λ (v : Values). v .state) values-refused
+
+-- where there is no record the state is as it came, and the outcome says so
+pub nothing-state : (before : State) → nothingHeard before .state ≡ before
+unfolding nothingHeard refusedValues
+nothing-state before = refl
+
+pub nothing-outcome : (before : State) → nothingHeard before .outcome ≡ Nothing
+unfolding nothingHeard refusedValues
+nothing-outcome before = refl
 
 -- ---- a record that is heard
 
@@ -121,95 +152,102 @@ module _ (r : Record) (before : State) (heard : outcomeOf r ≡ Heard) where
   unfolding valuesOf
   values-heard = rw heard
 
-  pub heard-cg : valuesOf r before .cg ≡ inSubframes (λ n. getD cgTable (cgIndex r n) (pos 0))
+  -- the gains of its indices
+  pub heard-cg : valuesOf r before .cg ≡ inSubframes (λ n. valueIn (gainOf cgTable (cgIndex r n)))
   unfolding heardValues
   heard-cg = ap (λ (v : Values). v .cg) values-heard
 
-  pub heard-pg : valuesOf r before .pg ≡ inSubframes (λ n. getD pgTable (pgIndex r n) (pos 0))
+  pub heard-pg : valuesOf r before .pg ≡ inSubframes (λ n. valueIn (gainOf pgTable (pgIndex r n)))
   unfolding heardValues
   heard-pg = ap (λ (v : Values). v .pg) values-heard
 
-  -- the delays and the mark, whatever the state
+  -- the delays, whatever the state
   pub heard-delays : valuesOf r before .delays ≡ delaysOf r
   unfolding heardValues
   heard-delays = ap (λ (v : Values). v .delays) values-heard
 
-  pub heard-mark : valuesOf r before .mark ≡ markOf (hertzOf (r .lsp))
+  -- the mark of the present LSPs, whatever the state
+  pub heard-mark : valuesOf r before .mark ≡ markOf (presentOf r)
   unfolding heardValues
   heard-mark = ap (λ (v : Values). v .mark) values-heard
 
-  pub heard-averages : valuesOf r before .averages ≡ averagesOf (previousOf before (presentOf r)) (presentOf r)
+  -- the averages of the previous LSPs and those used
+  pub heard-averages : valuesOf r before .averages ≡ averagesOf (previousOf before (usedOf r before)) (usedOf r before)
   unfolding heardValues
   heard-averages = ap (λ (v : Values). v .averages) values-heard
 
-  -- the state after holds this frame's LSPs
-  pub heard-state : valuesOf r before .state ≡ stateAfter (presentOf r)
+  -- the state after holds the LSPs that were used
+  pub heard-state : valuesOf r before .state ≡ stateAfter (usedOf r before)
   unfolding heardValues
   heard-state = ap (λ (v : Values). v .state) values-heard
 
-  -- which are from 100 to 3,830 Hz
-  pub heard-state-within : (j : ℕ) → 1 ≤ j → j ≤ 10
-      → (100 ≤ lsp (valuesOf r before .state .hz) j) × (lsp (valuesOf r before .state .hz) j ≤ 3830)
-  heard-state-within j a b = rw heard-state (hertz-within j a b (r .lsp))
+  pub heard-begun : valuesOf r before .state .begun ≡ true
+  heard-begun = ap (λ (t : State). t .begun) heard-state
 
--- the state after depends on the record's LSPs alone
-pub state-by-lsp : (r₁ r₂ : Record) (s₁ s₂ : State) → outcomeOf r₁ ≡ Heard → outcomeOf r₂ ≡ Heard → r₁ .lsp ≡ r₂ .lsp
+  pub heard-hz : valuesOf r before .state .hz ≡ usedOf r before
+  heard-hz = ap (λ (t : State). t .hz) heard-state
+
+-- the state after depends on the LSPs used alone
+pub state-by-used : (r₁ r₂ : Record) (s₁ s₂ : State) → outcomeOf r₁ ≡ Heard → outcomeOf r₂ ≡ Heard → usedOf r₁ s₁ ≡ usedOf r₂ s₂
     → valuesOf r₁ s₁ .state ≡ valuesOf r₂ s₂ .state
-state-by-lsp r₁ r₂ s₁ s₂ h₁ h₂ e =
-    heard-state r₁ s₁ h₁ ∙ ap (λ (l : List ℕ). stateAfter (hertzOf l)) e ∙ sym (heard-state r₂ s₂ h₂)
+state-by-used r₁ r₂ s₁ s₂ h₁ h₂ e = heard-state r₁ s₁ h₁ ∙ ap stateAfter e ∙ sym (heard-state r₂ s₂ h₂)
 
 -- ---- the averages
 
--- a fresh state has not heard a frame
-pub fresh-not-heard : freshState .heard ≡ false
+-- a fresh state has not begun
+pub fresh-not-begun : freshState .begun ≡ false
 unfolding freshState
-fresh-not-heard = refl
+fresh-not-begun = refl
 
--- without a previous frame the present values stand for the previous ones
-pub previous-none : (before : State) (present : List ℕ) → before .heard ≡ false → previousOf before present ≡ present
-previous-none before present e = rw e
+-- without a previous frame this frame's values stand for the previous ones
+pub previous-none : (before : State) (used : List ℕ) → before .begun ≡ false → previousOf before used ≡ used
+previous-none before used e = rw e
 
 -- with one, its own do, whatever they are
-pub previous-kept : (before : State) (present : List ℕ) → before .heard ≡ true → previousOf before present ≡ before .hz
-previous-kept before present e = rw e
+pub previous-kept : (before : State) (used : List ℕ) → before .begun ≡ true → previousOf before used ≡ before .hz
+previous-kept before used e = rw e
 
 module _ (r : Record) (before : State) (heard : outcomeOf r ≡ Heard) (n j : ℕ) (a : 1 ≤ n) (b : n ≤ 4) (c : 1 ≤ j) (d : j ≤ 10) where
   -- what stands for LSP j in subframe n
-  averages-with : (previous : List ℕ) → previousOf before (presentOf r) ≡ previous
-      → getD (valuesOf r before .averages) (10 * (n - 1) + (j - 1)) 0 ≡ getD (averagesOf previous (presentOf r)) (10 * (n - 1) + (j - 1)) 0
+  abbrev averaged : ℕ
+  averaged = getD (valuesOf r before .averages) (10 * (n - 1) + (j - 1)) 0
+
+  averages-with : (previous : List ℕ) → previousOf before (usedOf r before) ≡ previous
+      → averaged ≡ getD (averagesOf previous (usedOf r before)) (10 * (n - 1) + (j - 1)) 0
   averages-with previous e =
       ap (λ (l : List ℕ). getD l (10 * (n - 1) + (j - 1)) 0)
-      (heard-averages r before heard ∙ ap (λ (l : List ℕ). averagesOf l (presentOf r)) e)
+      (heard-averages r before heard ∙ ap (λ (l : List ℕ). averagesOf l (usedOf r before)) e)
 
-  -- before the first frame it is eight times the present value
-  pub first-averages : before .heard ≡ false → getD (valuesOf r before .averages) (10 * (n - 1) + (j - 1)) 0 ≡ 8 * lsp (presentOf r) j
+  -- before the first frame it is eight times the value used
+  pub first-averages : before .begun ≡ false → averaged ≡ 8 * lsp (usedOf r before) j
   first-averages e =
-      averages-with (presentOf r) (previous-none before (presentOf r) e)
-      ∙ averages-same (presentOf r) n j a b c d
+      averages-with (usedOf r before) (previous-none before (usedOf r before) e) ∙ averages-same (usedOf r before) n j a b c d
 
-  -- after a frame the sum of its value and the present one
-  pub later-averages : before .heard ≡ true
-      → getD (valuesOf r before .averages) (10 * (n - 1) + (j - 1)) 0 ≡ averageAt (before .hz) (presentOf r) n j
+  -- after a frame the sum of its value and the one used
+  pub later-averages : before .begun ≡ true → averaged ≡ averageAt (before .hz) (usedOf r before) n j
   later-averages e =
-      averages-with (before .hz) (previous-kept before (presentOf r) e)
-      ∙ averages-at (before .hz) (presentOf r) n j a b c d
+      averages-with (before .hz) (previous-kept before (usedOf r before) e) ∙ averages-at (before .hz) (usedOf r before) n j a b c d
 
--- of two frames that are heard one after the other, the second's averages are of both frames' LSPs
-pub second-averages : (r₁ r₂ : Record) (s : State) → outcomeOf r₁ ≡ Heard → outcomeOf r₂ ≡ Heard
-    → (n j : ℕ) → 1 ≤ n → n ≤ 4 → 1 ≤ j → j ≤ 10
-    → getD (valuesOf r₂ (valuesOf r₁ s .state) .averages) (10 * (n - 1) + (j - 1)) 0 ≡ averageAt (presentOf r₁) (presentOf r₂) n j
-second-averages r₁ r₂ s h₁ h₂ n j a b c d =
-    later-averages r₂ (valuesOf r₁ s .state) h₂ n j a b c d (ap (λ (t : State). t .heard) (heard-state r₁ s h₁))
-    ∙ ap (λ (t : State). averageAt (t .hz) (presentOf r₂) n j) (heard-state r₁ s h₁)
+-- ---- what a record that is not refused for an index has: LSPs, gains and delays of its own indices
 
--- ---- delays and gains
-
--- every delay is in the list, from 20 to 147 samples
-pub delays-within : (r : Record) (k : ℕ) → k < 4 → (240 ≤ getD (delaysOf r) k 0) × (getD (delaysOf r) k 0 ≤ 1764)
-unfolding delaysOf
-delays-within r k h = heard-within _ k h
+-- the bits of the ten LSPs are the widths of their fields
+bits-are-widths : (k : ℕ) → k < 10 → getD bits k 0 ≡ getD widths k 0
+bits-are-widths k h = eqb→eq _ _ (at 0 (λ i w. eqb w (getD widths i 0)) bits tt k h)
 
 module _ (r : Record) (fits : tooLarge r ≡ 0) where
+  -- each of its LSP indices fits its column
+  pub lsp-fits : (j : ℕ) → 1 ≤ j → j ≤ 10 → lsp (r .lsp) j < 2 ^ lsp bits j
+  lsp-fits j a b =
+      let h : indexOf r j < 2 ^ widthOf j = none-too-large r fits j a (omega arith) in
+      rw (bits-are-widths (j - 1) (omega arith)) (rw (le-leb j 10 b) at h)
+
+  pub lsps-fit : hertz.tooLarge (r .lsp) ≡ 0
+  lsps-fit = all-fit (r .lsp) lsp-fits
+
+  -- so its LSPs in Hz are the entries there
+  pub present-at : (j : ℕ) → 1 ≤ j → j ≤ 10 → lsp (presentOf r) j ≡ getD (column j) (lsp (r .lsp) j) 0
+  present-at j a b = hertz-at (r .lsp) lsps-fit j a b
+
   -- each gain's index has an entry in its table
   pub cg-index-small : (n : ℕ) → 1 ≤ n → n ≤ 4 → cgIndex r n < 32
   cg-index-small n a b =
@@ -223,12 +261,41 @@ module _ (r : Record) (fits : tooLarge r ≡ 0) where
       (none-too-large r fits 16 (omega arith) (omega arith)) (none-too-large r fits 20 (omega arith) (omega arith))
       (none-too-large r fits 24 (omega arith) (omega arith))
 
-  -- so each gain is one of the table's
-  pub cg-within : (n : ℕ) → 1 ≤ n → n ≤ 4 → Ranged (minus 1330) (plus 1330) 1330 (getD cgTable (cgIndex r n) (pos 0))
-  cg-within n a b = cg-range (cgIndex r n) (let h = cg-index-small n a b in omega arith)
+  -- its four codes fit their bits
+  pub pd-fit : Fit (pdIndex r 1) (pdIndex r 2) (pdIndex r 3) (pdIndex r 4)
+  pd-fit =
+      record {
+        first = none-too-large r fits 11 (omega arith) (omega arith);
+        second = none-too-large r fits 15 (omega arith) (omega arith);
+        third = none-too-large r fits 19 (omega arith) (omega arith);
+        fourth = none-too-large r fits 23 (omega arith) (omega arith);
+      }
 
-  pub pg-within : (n : ℕ) → 1 ≤ n → n ≤ 4 → Ranged (minus 993) (plus 1991) 1991 (getD pgTable (pgIndex r n) (pos 0))
-  pg-within n a b = pg-range (pgIndex r n) (let h = pg-index-small n a b in omega arith)
+  -- so they mean its delays
+  pub delays-meant : meantBy (inSubframes (pdIndex r))
+      ≡ Meant.Delays (getD (delaysOf r) 0 0) (getD (delaysOf r) 1 0) (getD (delaysOf r) 2 0) (getD (delaysOf r) 3 0)
+  unfolding meantBy delaysOf
+  delays-meant = let e = fit-meant (pdIndex r 1) (pdIndex r 2) (pdIndex r 3) (pdIndex r 4) pd-fit in e ∙ rw e refl
+
+-- the gain of each subframe, where four gains are those of four indices that fit
+given-in : (table : List ℤ) (index : ℕ → ℕ) {gains : List ℤ} → gains ≡ inSubframes (λ n. valueIn (gainOf table (index n)))
+    → (n : ℕ) → 1 ≤ n → n ≤ 4 → index n < 32 → gainOf table (index n) ≡ Gain.Value (getD gains (n - 1) (pos 0))
+given-in table index {gains} e n a b h =
+    let g = gain-value table (index n) (omega arith) in
+    g ∙ ap Gain.Value (ap valueIn (sym g) ∙ each ∙ sym (ap (λ (l : List ℤ). getD l (n - 1) (pos 0)) e))
+  where
+    each : valueIn (gainOf table (index n)) ≡ getD (inSubframes (λ m. valueIn (gainOf table (index m)))) (n - 1) (pos 0)
+    each =
+        of-four (λ k. valueIn (gainOf table (index k)) ≡ getD (inSubframes (λ m. valueIn (gainOf table (index m)))) (k - 1) (pos 0)) n a b
+        refl refl refl refl
+
+module _ (r : Record) (before : State) (heard : outcomeOf r ≡ Heard) (n : ℕ) (a : 1 ≤ n) (b : n ≤ 4) where
+  -- the gains of a record that is heard are those of its indices, none too large
+  pub cg-given : gainOf cgTable (cgIndex r n) ≡ Gain.Value (getD (valuesOf r before .cg) (n - 1) (pos 0))
+  cg-given = given-in cgTable (cgIndex r) (heard-cg r before heard) n a b (cg-index-small r (heard-fits r heard .0) n a b)
+
+  pub pg-given : gainOf pgTable (pgIndex r n) ≡ Gain.Value (getD (valuesOf r before .pg) (n - 1) (pos 0))
+  pg-given = given-in pgTable (pgIndex r) (heard-pg r before heard) n a b (pg-index-small r (heard-fits r heard .0) n a b)
 
 -- ---- heard or refused
 
@@ -245,8 +312,35 @@ module _ (r : Record) (before : State) where
       go Heard e = subst p (sym (values-heard r before e)) (h e)
       go (TooLarge f) e = refused (λ q. too-large-not-heard f (sym e ∙ q))
       go Expansion e = refused (λ q. expansion-not-heard (sym e ∙ q))
+      go Nothing e = refused (λ q. nothing-not-heard (sym e ∙ q))
 
   -- the answer tells the outcome
   pub values-outcome : valuesOf r before .outcome ≡ outcomeOf r
   unfolding heardValues refusedValues
   values-outcome = by-values (λ v. v .outcome ≡ outcomeOf r) (λ e. sym e) (λ w. refl)
+
+  -- four delays are answered in any case, none over 147 samples
+  pub delays-four : length (valuesOf r before .delays) ≡ 4
+  unfolding heardValues refusedValues delaysOf
+  delays-four =
+      by-values (λ v. length (v .delays) ≡ 4) (λ e. four-in (meantBy (inSubframes (pdIndex r)))) (λ w. length-tabulate (λ k. 0) 4)
+    where
+      four-in : (m : Meant) → length (delaysIn m) ≡ 4
+      four-in (Meant.Delays a b c d) = refl
+      four-in (Meant.TooLarge n) = refl
+
+  pub delays-most : (k : ℕ) → k < 4 → getD (valuesOf r before .delays) k 0 ≤ 1764
+  unfolding heardValues refusedValues delaysOf meantBy
+  delays-most k h =
+      by-values (λ v. getD (v .delays) k 0 ≤ 1764) (λ e. most-in (meantBy (inSubframes (pdIndex r))) refl)
+      (λ w. rw (getD-tabulate {A = ℕ} (λ i. 0) 0 4 k h) (omega arith))
+    where
+      four : (w x y z : ℕ) → w ≤ 1764 → x ≤ 1764 → y ≤ 1764 → z ≤ 1764 → getD (w ∷ x ∷ y ∷ z ∷ []) (k + 1 - 1) 0 ≤ 1764
+      four w x y z = of-four (λ n. getD (w ∷ x ∷ y ∷ z ∷ []) (n - 1) 0 ≤ 1764) (k + 1) (omega arith) (omega arith)
+
+      most-in : (m : Meant) → fourMeant (pdIndex r 1) (pdIndex r 2) (pdIndex r 3) (pdIndex r 4) ≡ m → getD (delaysIn m) k 0 ≤ 1764
+      most-in (Meant.Delays w x y z) e =
+          let p = meant-within (pdIndex r 1) (pdIndex r 2) (pdIndex r 3) (pdIndex r 4) w x y z e in
+          rw (sym (add-sub-cancel k 1)) (four w x y z (p .0 .1) (p .1 .1) (p .2 .1) (p .3 .1))
+      most-in (Meant.TooLarge n) e =
+          rw (sym (add-sub-cancel k 1)) (four 0 0 0 0 (omega arith) (omega arith) (omega arith) (omega arith))

@@ -2,22 +2,27 @@
 use mathlib.Core.Bool.{true, false, cond}
 use mathlib.Core.List.{List, [], _∷_}
 use Prim.Native.Nat.{ℕ, _+_, _-_, _*_}
-use lib.Dec.{eqb}
 use lib.IntN.{ℤ, pos}
 use lib.ListN.{getD}
 use Rattle.laws.specs.Tabulate.{tabulate}
+use Rattle.laws.specs.Unless.{unless}
 use Rattle.record.specs.Fields.{indexOf}
 use Rattle.record.specs.declared.Record.{Record}
 use Rattle.gains.specs.Tables.{cgTable, pgTable}
+use Rattle.gains.specs.Gains.{gainOf}
+use Rattle.gains.specs.declared.Gain.{Gain}
+use Rattle.gains.specs.declared.Gain.the-variants as Gain
 use Rattle.delays.specs.Codes.{meantBy}
+use Rattle.delays.specs.declared.Meant.{Meant}
+use Rattle.delays.specs.declared.Meant.the-variants as Meant
 use Rattle.lsp.specs.Table.{hertzOf}
 use Rattle.lsp.specs.Order.{markOf}
 use Rattle.lsp.specs.Average.{averagesOf}
 use Rattle.values.specs.declared.State.{State}
 use Rattle.values.specs.declared.Values.{Values}
 use Rattle.values.specs.declared.Outcome.{Outcome}
-use Rattle.values.specs.declared.Outcome.the-variants.{Heard}
-use Rattle.values.specs.Outcome.{outcomeOf, refusalOf}
+use Rattle.values.specs.declared.Outcome.the-variants.{Heard, Nothing}
+use Rattle.values.specs.Outcome.{outcomeOf, isHeard}
 
 -- the indices of subframe n: PD, PG and CG are the first, second and fourth of its four fields; the third, CI, has no value here
 abbrev pub pdIndex : Record → ℕ → ℕ
@@ -33,31 +38,47 @@ cgIndex r n = indexOf r (10 + 4 * (n - 1) + 4)
 abbrev pub inSubframes : {A : Type 0} → (ℕ → A) → List A
 inSubframes f = f 1 ∷ f 2 ∷ f 3 ∷ f 4 ∷ []
 
--- the gains of four indices in a table
-abbrev pub gainsOf : List ℤ → List ℕ → List ℤ
-gainsOf table indices = inSubframes (λ n. getD table (getD indices (n - 1) 0) (pos 0))
+-- the index at one place of each subframe's four fields, the first at place 0
+abbrev pub indicesAt : Record → ℕ → List ℕ
+indicesAt r place = inSubframes (λ n. indexOf r (10 + 4 * (n - 1) + 1 + place))
 
--- the four delays in twelfths
+-- the gains of four indices in a table; an index too large, which no record that is heard has, counts 0
+abbrev pub valueIn : Gain → ℤ
+valueIn (Gain.Value v) = v
+valueIn Gain.TooLarge = pos 0
+
+abbrev pub gainsOf : List ℤ → List ℕ → List ℤ
+gainsOf table indices = inSubframes (λ n. valueIn (gainOf table (getD indices (n - 1) 0)))
+
+-- the four delays in twelfths; a code too large, which no record that is heard has, makes them 0
+abbrev pub delaysIn : Meant → List ℕ
+delaysIn (Meant.Delays a b c d) = a ∷ b ∷ c ∷ d ∷ []
+delaysIn (Meant.TooLarge subframe) = 0 ∷ 0 ∷ 0 ∷ 0 ∷ []
+
 unfoldable pub delaysOf : Record → List ℕ
-delaysOf r = meantBy (inSubframes (pdIndex r))
+delaysOf r = delaysIn (meantBy (inSubframes (pdIndex r)))
 
 -- the present frame's ten LSPs in Hz
 abbrev pub presentOf : Record → List ℕ
-presentOf r = hertzOf (r .lsp)
+presentOf r = hertzOf (r .lsp) .hz
+
+-- those that are used: the present ones, in order or not
+abbrev pub usedOf : Record → State → List ℕ
+usedOf r before = presentOf r
 
 -- before the first frame there is no previous one
 unfoldable pub freshState : State
-freshState = record { heard = false; hz = tabulate (λ k. 0) 10 }
+freshState = record { begun = false; hz = tabulate (λ k. 0) 10 }
 
--- after a frame there is one, and its LSPs are kept
+-- after a frame there is one, and the LSPs that were used are kept
 abbrev pub stateAfter : List ℕ → State
-stateAfter present = record { heard = true; hz = present }
+stateAfter used = record { begun = true; hz = used }
 
--- the previous frame's LSPs; a fresh state takes the present frame's own
+-- the previous frame's LSPs; a fresh state takes this frame's own
 abbrev pub previousOf : State → List ℕ → List ℕ
-previousOf before present = cond (before .heard) (before .hz) present
+previousOf before used = cond (before .begun) (before .hz) used
 
--- the values of a record that is not refused; LSPs that fall are marked, and used all the same
+-- the values of a record that is not refused; LSPs that fall are marked
 unfoldable pub heardValues : Record → State → Values
 heardValues r before =
     record {
@@ -65,9 +86,9 @@ heardValues r before =
       cg = gainsOf cgTable (inSubframes (cgIndex r));
       pg = gainsOf pgTable (inSubframes (pgIndex r));
       delays = delaysOf r;
-      averages = averagesOf (previousOf before (presentOf r)) (presentOf r);
+      averages = averagesOf (previousOf before (usedOf r before)) (usedOf r before);
       mark = markOf (presentOf r);
-      state = stateAfter (presentOf r);
+      state = stateAfter (usedOf r before);
     }
 
 -- a refused record has no values, and leaves the state as it came
@@ -83,6 +104,10 @@ refusedValues outcome before =
       state = before;
     }
 
+-- and so has, and does, no record at all
+unfoldable pub nothingHeard : State → Values
+nothingHeard before = refusedValues Nothing before
+
 -- any record after any state
 unfoldable pub valuesOf : Record → State → Values
-valuesOf r before = cond (eqb (refusalOf (outcomeOf r)) 0) (heardValues r before) (refusedValues (outcomeOf r) before)
+valuesOf r before = unless (isHeard (outcomeOf r)) (refusedValues (outcomeOf r) before) (heardValues r before)

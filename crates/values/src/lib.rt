@@ -1,18 +1,17 @@
 // What a record says: its gains, delays, averages and order mark, from the record and the state before it, with the state after.
 // A record with an index too large, or whose SP is 1, is refused, and leaves the state as it came.
+use delays::Meant;
+use gains::Gain;
 use record::Record;
 ghost use mathlib.Core.Path.{_≡_};
-ghost use Prim.Native.Nat.{ℕ, _<_};
-ghost use lib.IntN.{pos};
-ghost use lib.ListN.{length, getD};
-ghost use Rattle.record.specs.Fields.{tooLarge};
-ghost use Rattle.gains.specs.Tables.{cgTable, pgTable};
-ghost use Rattle.values.specs.Outcome.{outcomeOf};
-ghost use Rattle.values.specs.Values.{freshState, stateAfter, previousOf, gainsOf, delaysOf, heardValues, refusedValues, valuesOf};
+ghost use Prim.Native.Nat.{_<_};
+ghost use Rattle.gains.specs.Gains.{gainOf};
+ghost use Rattle.values.specs.Values.{valueIn, indicesAt, gainsOf, delaysOf, freshState, stateAfter, previousOf};
+ghost use Rattle.values.specs.Values.{heardValues, refusedValues, nothingHeard, valuesOf};
 
 // What is kept from frame to frame: whether there was a previous frame, and its LSPs in Hz.
 pub struct State {
-    pub heard: bool,
+    pub begun: bool,
     pub hz: [u16; 10],
 }
 
@@ -22,39 +21,40 @@ impl State {
         ensures { λ s. ⌜ s ≡ freshState ⌝ }
     {
         State {
-            heard: false,
+            begun: false,
             hz: [0u16; 10],
         }
     }
 
-    // The state after a frame with these LSPs.
+    // The state after a frame of which these LSPs were used.
     fn after(hz: [u16; 10]) -> State
         ensures { λ s. ⌜ s ≡ stateAfter hz ⌝ }
     {
-        State { heard: true, hz }
+        State { begun: true, hz }
     }
 
-    // The previous frame's LSPs in Hz, or the present ones where there was no previous frame.
-    fn previous(self, present: [u16; 10]) -> [u16; 10]
-        ensures { λ hz. ⌜ hz ≡ previousOf self present ⌝ }
+    // The previous frame's LSPs in Hz, or those of this frame where there was no previous one.
+    fn previous(self, used: [u16; 10]) -> [u16; 10]
+        ensures { λ hz. ⌜ hz ≡ previousOf self used ⌝ }
     {
         let kept = self.hz;
-        if self.heard {
+        if self.begun {
             return kept;
         }
-        present
+        used
     }
 }
 
-// Whether a record has values, or its refusal with what it tells.
+// Whether a record has values, or its refusal with what it tells, or that there was no record.
 pub enum Outcome {
     Heard,
     TooLarge(usize),
     Expansion,
+    Nothing,
 }
 
 // What a record says, subframe 1 first; PG in thousandths, delays in twelfths of a sample, averages in eighths of a Hz.
-// Where the record was refused all are 0, and the state is as it came.
+// Where nothing was heard all are 0, and the state is as it came.
 pub struct Values {
     pub outcome: Outcome,
     pub cg: [i32; 4],
@@ -65,70 +65,30 @@ pub struct Values {
     pub state: State,
 }
 
-// The values of a record, given the state before it.
+impl Values {
+    // What is heard where there is no record.
+    pub fn nothing(before: State) -> Values
+        ensures { λ v. ⌜ v ≡ nothingHeard before ⌝ }
+    {
+        refused_values(Outcome::Nothing, before)
+    }
+}
+
+// The values of a record, given the state before it; or its refusal, the lowest number first.
 pub fn values_of(r: Record, before: State) -> Values
     ensures { λ v. ⌜ v ≡ valuesOf r before ⌝ }
 {
-    let outcome = outcome_of(r);
-    match outcome {
-        Outcome::Heard => heard_values(r, before),
-        Outcome::TooLarge(_) => refused_values(outcome, before),
-        Outcome::Expansion => refused_values(outcome, before),
-    }
-}
-
-// Whether a record has values, or its refusal, the lowest number first.
-pub fn outcome_of(r: Record) -> Outcome
-    ensures { λ o. ⌜ o ≡ outcomeOf r ⌝ }
-{
     let field = r.too_large();
-    let sp = r.sp;
     if field != 0 {
-        return Outcome::TooLarge(field);
+        return refused_values(Outcome::TooLarge(field), before);
     }
-    if sp == 1 {
-        return Outcome::Expansion;
+    if r.sp != 0 {
+        return refused_values(Outcome::Expansion, before);
     }
-    Outcome::Heard
+    heard_values(r, before)
 }
 
-// The four delays of a record in twelfths.
-pub fn delays_of(r: Record) -> [u16; 4]
-    ensures { λ d. ⌜ d ≡ delaysOf r ⌝ }
-{
-    let s = r.subframes;
-    delays::heard([s[0], s[4], s[8], s[12]])
-}
-
-// The values of a record that is not refused.
-fn heard_values(r: Record, before: State) -> Values
-    requires { ⌜ tooLarge r ≡ 0 ⌝ }
-    ensures { λ v. ⌜ v ≡ heardValues r before ⌝ }
-{
-    let s = r.subframes;
-    let cg_entries = cg_table();
-    let cg = gains_in(&cg_entries, [s[3], s[7], s[11], s[15]]);
-    let pg_entries = pg_table();
-    let pg = gains_in(&pg_entries, [s[1], s[5], s[9], s[13]]);
-    let delays = delays_of(r);
-    let indices = r.lsp;
-    let present = lsp::hertz(indices);
-    let previous = before.previous(present);
-    let averages = lsp::averages(previous, present);
-    let mark = lsp::order_mark(present);
-    let state = State::after(present);
-    Values {
-        outcome: Outcome::Heard,
-        cg,
-        pg,
-        delays,
-        averages,
-        mark,
-        state,
-    }
-}
-
-// What a refused record gets: nothing but the refusal.
+// What a refused record gets, and what there is where there is none: nothing but the outcome.
 fn refused_values(outcome: Outcome, before: State) -> Values
     ensures { λ v. ⌜ v ≡ refusedValues outcome before ⌝ }
 {
@@ -143,23 +103,60 @@ fn refused_values(outcome: Outcome, before: State) -> Values
     }
 }
 
-// The tables of gains, as the definitions have them.
-fn cg_table() -> [i16; 32]
-    ensures { λ t. ⌜ t ≡ cgTable ⌝ }
+// The values of a record that is not refused. Its LSPs are used as they are, in order or not.
+fn heard_values(r: Record, before: State) -> Values
+    ensures { λ v. ⌜ v ≡ heardValues r before ⌝ }
 {
-    gains::CG
+    let cg = gains_in(&gains::CG, in_subframes(r, CG));
+    let pg = gains_in(&gains::PG, in_subframes(r, PG));
+    let delays = delays_of(r);
+    let indices = r.lsp;
+    let hertz = lsp::in_hertz(indices);
+    let present = hertz.hz;
+    let used = present;
+    let previous = before.previous(used);
+    let averages = lsp::averages(previous, used);
+    let mark = lsp::order_mark(present);
+    let state = State::after(used);
+    Values {
+        outcome: Outcome::Heard,
+        cg,
+        pg,
+        delays,
+        averages,
+        mark,
+        state,
+    }
 }
 
-fn pg_table() -> [i16; 32]
-    ensures { λ t. ⌜ t ≡ pgTable ⌝ }
+// Where PD, PG and CG stand among the four indices of a subframe. CI, the third, has no value here.
+const PD: usize = 0;
+
+const PG: usize = 1;
+
+const CG: usize = 3;
+
+// The index at one place of each subframe's four.
+fn in_subframes(r: Record, place: usize) -> [u16; 4]
+    requires { ⌜ place < 4 ⌝ }
+    ensures { λ i. ⌜ i ≡ indicesAt r place ⌝ }
 {
-    gains::PG
+    let s = r.subframes;
+    [s[place], s[4 + place], s[8 + place], s[12 + place]]
+}
+
+// The four delays of a record in twelfths.
+fn delays_of(r: Record) -> [u16; 4]
+    ensures { λ d. ⌜ d ≡ delaysOf r ⌝ }
+{
+    match delays::meaning(in_subframes(r, PD)) {
+        Meant::Delays(a, b, c, d) => [a, b, c, d],
+        Meant::TooLarge(_) => [0u16; 4],
+    }
 }
 
 // The gains of four indices in a table.
-fn gains_in(table: &[i16], indices: [u16; 4]) -> [i32; 4]
-    requires { ⌜ length (now table) ≡ 32 ⌝ }
-    requires { ⌜ ((k : ℕ) → k < 4 → getD indices k 0 < 32) ⌝ }
+fn gains_in(table: &[i16; 32], indices: [u16; 4]) -> [i32; 4]
     ensures { λ g. ⌜ g ≡ gainsOf (now (table .entry)) indices ⌝ }
 {
     let a = gain_in(table, indices[0]);
@@ -169,13 +166,12 @@ fn gains_in(table: &[i16], indices: [u16; 4]) -> [i32; 4]
     [a, b, c, d]
 }
 
-// The gain of an index in a table.
-fn gain_in(table: &[i16], index: u16) -> i32
-    requires { ⌜ length (now table) ≡ 32 ⌝ }
-    requires { ⌜ index < 32 ⌝ }
-    ensures { λ g. ⌜ g ≡ getD (now (table .entry)) index (pos 0) ⌝ }
+// The gain of an index in a table, 0 for an index too large.
+fn gain_in(table: &[i16; 32], index: u16) -> i32
+    ensures { λ g. ⌜ g ≡ valueIn (gainOf (now (table .entry)) index) ⌝ }
 {
-    let i = index as usize;
-    let entry = table[i];
-    entry as i32
+    match gains::gain_at(table, index) {
+        Gain::Value(gain) => gain,
+        Gain::TooLarge => 0,
+    }
 }

@@ -1,11 +1,11 @@
 use mathlib.Core.Path.{_∙_, sym}
-use Rattle.blocks.proofs.Voices.{head-no-voice, voice-itself, end-no-voice, broken-no-voice}
 use borrow.Author.Needs.{needs}
+use Rattle.blocks.proofs.Voices.{head-no-voice, voice-itself, end-no-voice, broken-no-voice}
 use Rattle.blocks.proofs.voice_size.Statement.{statement}
 use Rattle.blocks.proofs.voice_size.Tie as tie
 
 returns : tie.Need-returns
-returns c = head-no-voice _ _ _ _ (sym (c .before .before .block-at .ensures) ∙ c .enum-told .given .1)
+returns c = head-no-voice _ _ _ (sym (c .before .before .block-at .ensures) ∙ c .enum-told .given .1)
 
 returns-2 : tie.Need-returns-2
 returns-2 c = voice-itself _ _ _ (sym (c .before .before .before .block-at .ensures) ∙ c .before .size .given .1)

@@ -23,13 +23,19 @@ advance-requires : tie.Need-advance-requires Inv-loop μ-loop
 advance-requires c κs = (c .before .if1 .left, c .loop .inv .room)
 
 loop-less : tie.Need-loop-less Inv-loop μ-loop
-loop-less c = let f = step-further _ _ _ (sym (c .before .before .before .advance .ensures) ∙ c .before .next .given .1) in omega (arith, f .on, f .within)
+loop-less c =
+    let f = step-further _ _ _ (sym (c .before .before .before .advance .ensures) ∙ c .before .next .given .1) in
+    omega (arith, f .on, f .within)
 
 loop-again : tie.Need-loop-again Inv-loop μ-loop
-loop-again c = walking-on _ (c .before .before .before .before .loop .inv) (sym (c .before .before .before .advance .ensures) ∙ c .before .next .given .1)
+loop-again c =
+    walking-on _ (c .before .before .before .before .loop .inv)
+    (sym (c .before .before .before .advance .ensures) ∙ c .before .next .given .1)
 
 returns-2 : tie.Need-returns-2 Inv-loop μ-loop
-returns-2 c = walking-done _ (c .before .before .before .before .before .if1 .left) (c .before .before .before .before .loop .inv) (sym (c .before .before .before .advance .ensures) ∙ c .before .answer .given .1)
+returns-2 c =
+    walking-done _ (c .before .before .before .before .before .if1 .left) (c .before .before .before .before .loop .inv)
+    (sym (c .before .before .before .advance .ensures) ∙ c .before .ending .given .1)
 
 pub walk-through-spec : {M : Type 1} → statement M
 walk-through-spec =

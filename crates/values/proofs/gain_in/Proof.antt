@@ -1,22 +1,22 @@
--- `values::gain_in` meets its contract. An entry of 16 bits is the same number at 32.
+-- `values::gain_in` meets its contract: an arm for each answer of the look-up.
 -- Assumes nothing.
-use borrow.Author.Needs.{needs, sfits-of}
-use lib.IntN.{pos}
-use lib.ListN.{getD}
-use mir.Syntax.{w16}
+use mathlib.Core.Path.{_∙_, sym, ap}
+use native.Mathlib.Omega.{arith}
+use borrow.Author.Needs.{needs}
+use mir.Facts.{toZ-ofZ}
+use mir.Syntax.{w32}
 use mir.Val.{SFits}
-use Rattle.laws.proofs.Held.{cast-fits, cast-is}
+use Rattle.values.specs.Values.{valueIn}
 use Rattle.values.proofs.gain_in.Statement.{statement}
 use Rattle.values.proofs.gain_in.Tie as tie
 
-cast-result : tie.Need-cast-result
-cast-result c =
-    let a = c .before .args in
-    let f : SFits w16 (getD (a .table .now) (a .index) (pos 0)) = sfits-of (c .entry .given) in
-    cast-fits _ f tt
-
 returns : tie.Need-returns
-returns c = cast-is _ (sfits-of (c .entry .given)) tt
+returns c =
+    let f : SFits w32 (c .before .gain .given .0 .0) = search needs in
+    toZ-ofZ f ∙ ap valueIn (sym (c .before .gain .given .1) ∙ c .before .before .before .gain-at .ensures)
+
+returns-2 : tie.Need-returns-2
+returns-2 c = ap valueIn (sym (c .enum-told .given .1) ∙ c .before .before .gain-at .ensures)
 
 pub gain-in-spec : {M : Type 1} → statement M
-gain-in-spec = tie.close (tie.spec (search needs) (search needs) cast-result returns)
+gain-in-spec = tie.close (tie.spec (λ c κs. omega arith) (search needs) (search needs) returns returns-2)

@@ -3,17 +3,17 @@ use native.Mathlib.Omega.{arith}
 use lib.ListN.{length}
 use borrow.Author.Needs.{needs}
 use Rattle.blocks.proofs.Voices.{voice-sized, Seeking, seeking-start, seeking-none, seeking-found, seeking-on}
-use Rattle.blocks.proofs.span_after_head.Statement.{statement}
-use Rattle.blocks.proofs.span_after_head.Tie as tie
+use Rattle.blocks.proofs.span_from.Statement.{statement}
+use Rattle.blocks.proofs.span_from.Tie as tie
 
 abbrev Inv-loop : tie.InvT-loop
-Inv-loop s k at₀ before₀ at before = Seeking s k at before
+Inv-loop s voices k at₀ before₀ at before = Seeking s voices k at before
 
 abbrev μ-loop : tie.MeasureT-loop
-μ-loop s k at₀ before₀ at before = length s - at
+μ-loop s voices k at₀ before₀ at before = length s - at
 
 loop-holds : tie.Need-loop-holds Inv-loop μ-loop
-loop-holds c = seeking-start _ _
+loop-holds c = seeking-start _ _ _
 
 returns : tie.Need-returns Inv-loop μ-loop
 returns c = seeking-none _ (c .before .voice-size .ensures) (c .before .before .loop .inv) (c .if1 .taken)
@@ -25,7 +25,8 @@ add-to : tie.Need-add-to Inv-loop μ-loop
 add-to c = let t = voice-sized _ _ _ (c .before .voice-size .ensures) (c .if1 .left) in omega (arith, t .fits)
 
 returns-2 : tie.Need-returns-2 Inv-loop μ-loop
-returns-2 c = seeking-found _ (c .before .before .voice-size .ensures) (c .before .before .before .loop .inv) (c .before .if1 .left) (c .if2 .taken)
+returns-2 c =
+    seeking-found _ (c .before .before .voice-size .ensures) (c .before .before .before .loop .inv) (c .before .if1 .left) (c .if2 .taken)
 
 sub-before : tie.Need-sub-before Inv-loop μ-loop
 sub-before c = omega arith
@@ -34,9 +35,10 @@ loop-less : tie.Need-loop-less Inv-loop μ-loop
 loop-less c = let t = voice-sized _ _ _ (c .before .before .voice-size .ensures) (c .before .if1 .left) in omega (arith, t .fits)
 
 loop-again : tie.Need-loop-again Inv-loop μ-loop
-loop-again c = seeking-on _ (c .before .before .voice-size .ensures) (c .before .before .before .loop .inv) (c .before .if1 .left) (c .if2 .left)
+loop-again c =
+    seeking-on _ (c .before .before .voice-size .ensures) (c .before .before .before .loop .inv) (c .before .if1 .left) (c .if2 .left)
 
-pub span-after-head-spec : {M : Type 1} → statement M
-span-after-head-spec =
+pub span-from-spec : {M : Type 1} → statement M
+span-from-spec =
     tie.close
     (tie.spec Inv-loop μ-loop loop-holds (search needs) returns add-from add-to returns-2 sub-before loop-less loop-again)
