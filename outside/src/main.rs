@@ -7,7 +7,7 @@ use std::path::Path;
 use std::process::ExitCode;
 
 const USAGE: &str =
-    "usage: outside tables | sample | list | hear | recordings DIR N SEED | leaves | leaf-cases [KIND MORE SEED] | windows DIR";
+    "usage: outside tables | sample | list | hear | recording SEED N | recordings DIR N SEED | leaves | leaf-cases [KIND MORE SEED] | windows DIR";
 
 /// Recordings longer than this get no `.hear` file.
 const LONGEST_HEARD: usize = 20_000;
@@ -27,6 +27,10 @@ fn main() -> ExitCode {
         ["sample"] => print(&cases::sample()),
         ["list"] => input().and_then(|recording| print(&listing::list(&recording))),
         ["hear"] => input().and_then(|recording| print(&hear::hear(&recording))),
+        ["recording", seed, n] => match (seed.parse(), n.parse()) {
+            (Ok(seed), Ok(n)) => print(&cases::recording(seed, n)),
+            _ => return usage(),
+        },
         ["recordings", folder, count, seed] => match (count.parse(), seed.parse()) {
             (Ok(count), Ok(seed)) => recordings(Path::new(folder), count, seed),
             _ => return usage(),
