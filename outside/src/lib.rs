@@ -6,6 +6,7 @@ pub mod cases;
 pub mod codes;
 pub mod delays;
 pub mod draws;
+pub mod exchange;
 pub mod frame;
 pub mod gains;
 pub mod hear;

@@ -1,13 +1,13 @@
 //! The command line over the library: tables, numbers, listings, hearings and cases.
 
-use outside::{cases, hear, leaves, listing, recording, tables};
+use outside::{cases, exchange, hear, leaves, listing, recording, tables};
 use std::fs;
 use std::io::{self, Read, Write};
 use std::path::Path;
 use std::process::ExitCode;
 
 const USAGE: &str =
-    "usage: outside tables | sample | list | hear | recording SEED N | recordings DIR N SEED | leaves | leaf-cases [KIND MORE SEED] | windows DIR";
+    "usage: outside tables | sample | list | hear | recording SEED N | recordings DIR N SEED | leaves | leaf-cases [KIND MORE SEED] | windows DIR | exchange | exchange-cases";
 
 /// Recordings longer than this get no `.hear` file.
 const LONGEST_HEARD: usize = 20_000;
@@ -23,6 +23,8 @@ fn main() -> ExitCode {
             (&[kind], Ok(more), Ok(seed)) => print(&leaves::many(kind, more, seed)),
             _ => return usage(),
         },
+        ["exchange"] => all_input().and_then(|cases| print(&exchange::answers(&cases))),
+        ["exchange-cases"] => print(&exchange::cases()),
         ["windows", folder] => windows(Path::new(folder)),
         ["sample"] => print(&cases::sample()),
         ["list"] => input().and_then(|recording| print(&listing::list(&recording))),
@@ -64,6 +66,13 @@ fn input() -> io::Result<Vec<u8>> {
         .lock()
         .take(recording::LONGEST as u64 + 1)
         .read_to_end(&mut bytes)?;
+    Ok(bytes)
+}
+
+/// All of standard input.
+fn all_input() -> io::Result<Vec<u8>> {
+    let mut bytes = Vec::new();
+    io::stdin().lock().read_to_end(&mut bytes)?;
     Ok(bytes)
 }
 
