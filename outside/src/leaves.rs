@@ -17,6 +17,9 @@ pub const ROOM: usize = 65_536;
 /// The widths of PD in the four subframes.
 const PD_WIDTHS: [u32; 4] = [8, 6, 8, 6];
 
+/// Many numbers are made one modulo this.
+const MANY: u64 = 1 << 58;
+
 /// Reads cases and writes the number of each on a line, then their sum; the sum alone if there is more than one round.
 pub fn answers(cases: &[u8]) -> String {
     let (head, rest) = cases.split_at_checked(4).unwrap_or((&[0; 4], &[]));
@@ -62,8 +65,8 @@ fn ten(case: &[u8], from: usize) -> [u16; 10] {
 fn answer(kind: u8, case: &[u8]) -> u64 {
     let gain = word(case, 0).wrapping_sub(1 << 31) as i32;
     let told = match kind {
-        b'c' => gains::cg(short(case, 0)).map(above_least),
-        b'p' => gains::pg(short(case, 0)).map(above_least),
+        b'c' => gains::cg(short(case, 0)).map(text_of),
+        b'p' => gains::pg(short(case, 0)).map(text_of),
         b'n' => Ok(gains::nearest_cg(gain).into()),
         b'q' => Ok(gains::nearest_pg(gain).into()),
         b'm' => meaning(std::array::from_fn(|n| short(case, n))).map(packed),
@@ -83,6 +86,12 @@ fn above_least(x: i32) -> u64 {
     (i64::from(x) + (1 << 31)) as u64
 }
 
+/// A number's text as one number: its first eight bytes, dots after it.
+fn text_of(x: i32) -> u64 {
+    let text = format!("{x:.<8}");
+    u64::from_le_bytes(text.as_bytes()[..8].try_into().expect("eight bytes"))
+}
+
 /// Four numbers as one, the first lowest.
 fn packed(four: [u16; 4]) -> u64 {
     four.iter()
@@ -93,7 +102,7 @@ fn packed(four: [u16; 4]) -> u64 {
 /// Many numbers as one.
 fn as_one(start: u64, all: impl IntoIterator<Item = u64>) -> u64 {
     all.into_iter()
-        .fold(start, |sum, n| (31 * (sum % (1 << 31)) + n) % (1 << 31))
+        .fold(start, |sum, n| (31 * sum + n % MANY) % MANY)
 }
 
 /// The delays that four codes mean, or the lowest subframe whose code is too large.
@@ -138,7 +147,7 @@ fn draws(first: u16, second: u16, count: u16) -> u64 {
     let mut draws = Draws::FIRST;
     draws.k = draws.k.wrapping_add(first);
     draws.j = draws.j.wrapping_add(second);
-    as_one(0, (0..count).map(|_| above_least(draws.draw().into())))
+    as_one(0, (0..count).map(|_| text_of(draws.draw().into())))
 }
 
 /// What is laid into the first bytes of four, dots before, and the position after it.
@@ -341,7 +350,7 @@ mod tests {
 
     #[test]
     fn answers_are_the_worked_numbers() {
-        assert_eq!(case(b'c', &[10]), (1 << 31) - 98);
+        assert_eq!(case(b'c', &[10]), u64::from_le_bytes(*b"-98....."));
         assert_eq!(case(b'c', &[32]), 9_000_000_000_000_200_000);
         assert_eq!(case(b'n', &[0, 0x8000]), 15);
         assert_eq!(case(b'q', &[0, 0]), 0);
@@ -353,7 +362,7 @@ mod tests {
             case(b's', &[656, 0, 1, 0, 0, 0, 0, 0]),
             9_000_000_000_000_400_002
         );
-        let four = [8472, -31377, -26172, 25681].map(above_least);
+        let four = [8472, -31377, -26172, 25681].map(text_of);
         assert_eq!(case(b'g', &[0, 0, 4]), as_one(0, four));
     }
 

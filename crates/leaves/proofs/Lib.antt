@@ -1,1 +1,1 @@
-pub mod Raised
+pub mod Lowered

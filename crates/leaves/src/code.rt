@@ -43,7 +43,7 @@ fn as_one(elements: [i8; 62], start: u64) -> u64 {
 }
 
 // 0 for an element below 0, 2 for one above, 1 for 0.
-fn sign(element: i8) -> u32 {
+fn sign(element: i8) -> u64 {
     if element < 0 {
         return 0;
     }
@@ -61,7 +61,7 @@ pub fn drawn(case: &[u8]) -> u64 {
     let mut k = 0;
     while k < count {
         let draw = generator.draw();
-        sum = number::with(sum, gain::raised(draw.value as i32));
+        sum = number::with(sum, gain::signed(draw.value as i32));
         generator = draw.generator;
         k += 1;
     }

@@ -23,8 +23,13 @@ fn as_one(averages: [u32; 40], start: u64) -> u64 {
     let mut sum = start;
     let mut k = 0;
     while k < 40 {
-        sum = number::with(sum, averages[k]);
+        sum = number::with(sum, wide(averages[k]));
         k += 1;
     }
     sum
+}
+
+// An average.
+fn wide(n: u32) -> u64 {
+    n as u64
 }

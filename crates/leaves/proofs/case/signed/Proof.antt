@@ -3,7 +3,7 @@
 use borrow.Author.Needs.{needs}
 use mir.Syntax.{w32}
 use mir.Val.{Fits}
-use Rattle.leaves.proofs.Raised.{difference-fits, difference-goes}
+use Rattle.leaves.proofs.Lowered.{difference-fits, difference-goes}
 use Rattle.leaves.proofs.case.signed.Statement.{statement}
 use Rattle.leaves.proofs.case.signed.Tie as tie
 

@@ -15,13 +15,13 @@ Inv-loop case generator₀ count sum₀ k₀ generator sum k = Unit {0}
 abbrev μ-loop : tie.MeasureT-loop
 μ-loop case generator₀ count sum₀ k₀ generator sum k = count - k
 
-cast-raised : tie.Need-cast-raised Inv-loop μ-loop
-cast-raised c =
+cast-signed : tie.Need-cast-signed Inv-loop μ-loop
+cast-signed c =
     let f : SFits w16 (c .before .before .draw .result .value) = search needs in
     cast-fits w32 f tt
 
 pub drawn-spec : {M : Type 1} → statement M
 drawn-spec =
     tie.close
-    (tie.spec Inv-loop μ-loop (λ c κs. tt) (λ c κs. tt) (λ c κs. tt) (λ c κs. tt) (λ c. tt) (λ c κs. tt) cast-raised (λ c κs. tt) (λ c κs. tt)
+    (tie.spec Inv-loop μ-loop (λ c κs. tt) (λ c κs. tt) (λ c κs. tt) (λ c κs. tt) (λ c. tt) (λ c κs. tt) cast-signed (λ c κs. tt) (λ c κs. tt)
     (λ c. omega arith) (λ c. omega arith) (λ c. tt) (λ c. tt))
