@@ -2,7 +2,7 @@
 ghost use Prim.Native.Nat.{_<_};
 
 // A byte as a wider number.
-fn wide(b: u8) -> u32
+pub fn wide(b: u8) -> u32
     ensures { λ r. ⌜ r < 256 ⌝ }
 {
     b as u32
@@ -29,18 +29,6 @@ pub fn signed(case: &[u8]) -> i32 {
     let wide = word(case, 0) as i64;
     let down = wide - 2147483648;
     down as i32
-}
-
-// The byte after a place, as a size.
-pub fn size(s: &[u8], at: usize) -> usize
-    requires { ⌜ at < 65536 ⌝ }
-    ensures { λ r. ⌜ r < 256 ⌝ }
-{
-    let next = at + 1;
-    if s.len() <= next {
-        return 0;
-    }
-    wide(s[next]) as usize
 }
 
 // Ten numbers from number `from` on.

@@ -3,8 +3,18 @@ use crate::case;
 use crate::number;
 use gains::Gain;
 
+// The gain of an index, or the index of the nearest one.
+pub fn number(kind: u8, case: &[u8]) -> u64 {
+    match kind {
+        b'c' => value(gains::cg(case::short(case, 0))),
+        b'p' => value(gains::pg(case::short(case, 0))),
+        b'n' => gains::nearest_cg(case::signed(case)) as u64,
+        _ => gains::nearest_pg(case::signed(case)) as u64,
+    }
+}
+
 // A gain, or the refusal.
-pub fn number(gain: Gain) -> u64 {
+fn value(gain: Gain) -> u64 {
     match gain {
         Gain::Value(v) => signed(v),
         Gain::TooLarge => number::refused(2, 0),

@@ -42,8 +42,12 @@ fn through(s: &[u8], before: u64, printing: bool) -> u64
     let mut sum = before;
     let mut at = 4;
     while at < s.len() {
+        let next = at + 1;
+        if s.len() <= next {
+            return sum;
+        }
         let first = at + 2;
-        let end = first + case::size(s, at);
+        let end = first + case::wide(s[next]) as usize;
         if s.len() < end {
             return sum;
         }
@@ -66,15 +70,12 @@ fn print(n: u64) {
 // The number for the answer to a case, by its kind.
 fn answered(kind: u8, case: &[u8]) -> u64 {
     match kind {
-        b'c' => gain::number(gains::cg(case::short(case, 0))),
-        b'p' => gain::number(gains::pg(case::short(case, 0))),
-        b'n' => gains::nearest_cg(case::signed(case)) as u64,
-        b'q' => gains::nearest_pg(case::signed(case)) as u64,
         b'm' => delay::meant(case),
         b's' => delay::coded(case),
         b'l' => lsps::number(case),
         b'e' => code::number(case),
         b'g' => code::drawn(case),
-        _ => room::number(kind, case),
+        b'b' | b'w' | b'd' => room::number(kind, case),
+        _ => gain::number(kind, case),
     }
 }

@@ -20,10 +20,10 @@ fn laid_in(kind: u8, case: &[u8], room: &mut [u8]) -> usize {
 // Lays a byte, the case itself as a word, or a number, at a position.
 fn laid(kind: u8, case: &[u8], out: &mut [u8]) -> usize {
     let at = case::word(case, 1) as usize;
+    let n = case::word(case, 3);
     match kind {
-        b'b' => text::put_byte(out, at, (case::short(case, 3) % 256) as u8),
+        b'b' => text::put_byte(out, at, (n % 256) as u8),
         b'w' => text::put_word(out, at, case),
-        b'd' => text::put_number(out, at, case::word(case, 3) as u64),
-        _ => 0,
+        _ => text::put_number(out, at, n as u64),
     }
 }
