@@ -16,10 +16,12 @@ use Rattle.codebook.specs.declared.Written.the-variants.{Code, WrongLeng
 abbrev pub Answers : ℕ → List ℤ → Written → List ℤ → Type 0
 Answers n l r left = (r ≡ writtenOf n (length l)) × (left ≡ codeLeft n l)
 
+-- a buffer that is not sixty elements is refused, and stays
 pub refused-length : (n : ℕ) (l : List ℤ) → (length l ≡ 60 → ⊥) → Answers n l WrongLength l
 unfolding codeLeft
 refused-length n l h = let t = ne-eqb (length l) 60 h in (rw t refl, rw t refl)
 
+-- an index over 511 is refused, and the buffer stays
 pub refused-index : (n : ℕ) (l : List ℤ) → length l ≡ 60 → 511 < n → Answers n l TooLarge l
 unfolding codeLeft
 refused-index n l e h =

@@ -1,4 +1,5 @@
--- What the definitions of this crate come to, for callers: each code has sixty elements, each -1, 0 or 1, and overlaps its neighbour;
+-- What the definitions of this crate come to, for callers: each code has sixty elements, each -1, 0 or 1, and overlaps
+-- its neighbour;
 -- the wrapped sum; the positions.
 -- Assumes nothing.
 use mathlib.Core.Path.{_≡_, _∙_, sym, refl, ap}
@@ -38,6 +39,7 @@ pub book-ternary : T (every ternary 0 book)
 unfolding book
 book-ternary = tt
 
+-- so is each element of the book
 pub element-ternary : (i : ℕ) → i < 1082 → natAbs (getD book i (pos 0)) ≤ 1
 element-ternary i h = leb→le _ _ (at (pos 0) ternary book book-ternary i (omega (arith, length-book)))
 
@@ -46,6 +48,7 @@ pub code-element : (n k : ℕ) → k < 60 → getD (codeOf n) k (pos 0) ≡ getD
 unfolding codeOf
 code-element n k h = getD-take 60 (drop (2 * (511 - n)) book) k (pos 0) h ∙ getD-drop (2 * (511 - n)) book k (pos 0)
 
+-- each code has sixty elements
 pub length-code : (n : ℕ) → length (codeOf n) ≡ 60
 unfolding codeOf
 length-code n =
@@ -68,7 +71,8 @@ one-of-three (pos n) h = inr (go (ℕ-discrete n 0))
 pub overlap : (n k : ℕ) → 1 ≤ n → n ≤ 511 → k ≤ 57 → getD (codeOf n) (k + 2) (pos 0) ≡ getD (codeOf (n - 1)) k (pos 0)
 overlap n k a b h =
     let e : 2 * (511 - n) + (k + 2) ≡ 2 * (511 - (n - 1)) + k = omega arith in
-    code-element n (k + 2) (omega arith) ∙ ap (λ (i : ℕ). getD book i (pos 0)) e ∙ sym (code-element (n - 1) k (omega arith))
+    code-element n (k + 2) (omega arith) ∙ ap (λ (i : ℕ). getD book i (pos 0)) e
+    ∙ sym (code-element (n - 1) k (omega arith))
 
 -- the wrapped sum of two numbers of sixteen bits is a number of sixteen bits
 pub sum-fits : (a b : ℤ) → SFits w16 a → SFits w16 b → SFits w16 (wrapped (a +ℤ b))
@@ -78,6 +82,7 @@ sum-fits a b f g = sixteen.wrapped-fits (a +ℤ b) (sixteen.sum-below a b f g)
 abbrev pub Congruent : ℤ → ℤ → Type 0
 Congruent x z = (m : ℤ) × (x ≡ z +ℤ m *ℤ pos 65536)
 
+-- a wrapped number is so
 pub wrapped-congruent : (z : ℤ) → Congruent (wrapped z) z
 unfolding wrapped
 wrapped-congruent z = go (ltZ z (negsuc 32767)) (ltZ (pos 32767) z)
@@ -90,7 +95,8 @@ wrapped-congruent z = go (ltZ z (negsuc 32767)) (ltZ (pos 32767) z)
 -- and no other number of sixteen bits is
 pub sum-only : (a b x : ℤ) → SFits w16 a → SFits w16 b → SFits w16 x → Congruent x (a +ℤ b) → x ≡ wrapped (a +ℤ b)
 sum-only a b x f g h (m, e) =
-    sym (toZ-ofZ h) ∙ ap (toZ w16) (sym (sixteen.remainder-bits x h) ∙ ap sixteen.remainder e ∙ sixteen.remainder-multiple (a +ℤ b) m)
+    sym (toZ-ofZ h) ∙ ap (toZ w16)
+    (sym (sixteen.remainder-bits x h) ∙ ap sixteen.remainder e ∙ sixteen.remainder-multiple (a +ℤ b) m)
     ∙ sixteen.remainder-read (a +ℤ b) (sixteen.sum-below a b f g)
 
 -- a number counts as a position of 1 to 5, and such a position as itself
@@ -101,6 +107,7 @@ position-range p = go (ℕ-discrete (p % 5) 0)
     go (yes e) = let q = fifth p e in (omega (arith, q .0), omega (arith, q .0))
     go (no e) = let q = by-remainder p e in (omega (arith, q .0), omega (arith, q .0))
 
+-- a position of 1 to 5 counts as itself
 pub position-self : (p : ℕ) → 1 ≤ p → p ≤ 5 → positionOf p ≡ p
 position-self p a b = go (ℕ-discrete (p % 5) 0)
   where
@@ -116,10 +123,12 @@ moved-range k a b = go (decLe k 1)
     go (yes h) = let q = round k h in (omega (arith, q), omega (arith, q))
     go (no h) = let q = down k (omega arith) in (omega (arith, q), omega (arith, q))
 
+-- the first is
 pub first-range : (g : Generator) → (1 ≤ drawOf g .generator .first) × (drawOf g .generator .first ≤ 5)
 unfolding drawOf
 first-range g = let r = position-range (g .first) in moved-range (positionOf (g .first)) (r .0) (r .1)
 
+-- and the second
 pub second-range : (g : Generator) → (1 ≤ drawOf g .generator .second) × (drawOf g .generator .second ≤ 5)
 unfolding drawOf
 second-range g = let r = position-range (g .second) in moved-range (positionOf (g .second)) (r .0) (r .1)

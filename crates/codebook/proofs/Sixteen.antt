@@ -1,4 +1,5 @@
--- Whole numbers on sixteen bits: the remainder on 65,536, and that the sum of two numbers' bits is the wrapped sum of the numbers.
+-- Whole numbers on sixteen bits: the remainder on 65,536, and that the sum of two numbers' bits is the wrapped sum of
+-- the numbers.
 -- Assumes nothing.
 use mathlib.Core.Path.{_≡_, _∙_, sym, refl, ap, subst}
 use mathlib.Core.Bool.{true, false, true≢false}
@@ -7,7 +8,8 @@ use native.Mathlib.Omega.{arith}
 use native.Mathlib.Decide.{decLe}
 use borrow.Author.Tests.{ltb-true, lt-ltb, le-ltb}
 use lib.Dec.{T}
-use lib.IntN.{ℤ, pos, negsuc, subℕ, negℤ, natAbs, _+ℤ_, _-ℤ_, _*ℤ_, +ℤ-idr, +ℤ-assoc, -ℤ-+ℤ-cancel, +ℤ-one, -ℤ-one, sucℤ-*ℤ, predℤ-*ℤ, ℤ-ind}
+use lib.IntN.{ℤ, pos, negsuc, subℕ, negℤ, natAbs, _+ℤ_, _-ℤ_, _*ℤ_, +ℤ-idr, +ℤ-assoc, -ℤ-+ℤ-cancel, +ℤ-one, -ℤ-one}
+use lib.IntN.{sucℤ-*ℤ, predℤ-*ℤ, ℤ-ind}
 use lib.Signed.{mag, nonNeg, ltZ}
 use mir.Syntax.{w16, w32}
 use mir.Val.{Fits, SFits, hbits, ofZ, toZ}
@@ -19,6 +21,7 @@ use Rattle.codebook.specs.Draw.{wrapped}
 pub sub-under : (a b : ℕ) → a < b → subℕ a b ≡ negsuc (b - suc a)
 sub-under a b h = rw (lt-ltb a b h) refl
 
+-- a smaller natural number taken from a larger one
 pub sub-over : (a b : ℕ) → b ≤ a → subℕ a b ≡ pos (a - b)
 sub-over a b h = rw (le-ltb a b h) refl
 
@@ -36,6 +39,7 @@ remainder-up (negsuc n) = go (decLe (suc n) 65536)
     go (yes h) = ap remainder (sub-over 65536 (suc n) h) ∙ omega arith
     go (no h) = ap remainder (sub-under 65536 (suc n) (omega arith)) ∙ omega arith
 
+-- 65,536 less leaves the same remainder
 remainder-down : (z : ℤ) → remainder (z -ℤ pos 65536) ≡ remainder z
 remainder-down z = sym (remainder-up (z -ℤ pos 65536)) ∙ ap remainder (-ℤ-+ℤ-cancel z (pos 65536))
 
@@ -43,6 +47,7 @@ remainder-down z = sym (remainder-up (z -ℤ pos 65536)) ∙ ap remainder (-ℤ-
 abbrev Same : ℤ → ℤ → Type 0
 Same z k = remainder (z +ℤ k *ℤ pos 65536) ≡ remainder z
 
+-- if k times 65,536 changes nothing, neither does one time more
 one-more : (z k : ℤ) → Same z k → Same z (k +ℤ pos 1)
 one-more z k e =
     ap (λ (x : ℤ). remainder (z +ℤ x)) (ap (λ (x : ℤ). x *ℤ pos 65536) (+ℤ-one k) ∙ sucℤ-*ℤ k (pos 65536))
@@ -50,6 +55,7 @@ one-more z k e =
     ∙ remainder-up (z +ℤ k *ℤ pos 65536)
     ∙ e
 
+-- nor one time less
 one-less : (z k : ℤ) → Same z k → Same z (k +ℤ negsuc 0)
 one-less z k e =
     ap (λ (x : ℤ). remainder (z +ℤ x)) (ap (λ (x : ℤ). x *ℤ pos 65536) (-ℤ-one k) ∙ predℤ-*ℤ k (pos 65536))
@@ -57,6 +63,7 @@ one-less z k e =
     ∙ remainder-down (z +ℤ k *ℤ pos 65536)
     ∙ e
 
+-- so no multiple of 65,536 changes the remainder
 pub remainder-multiple : (z m : ℤ) → Same z m
 remainder-multiple z m =
     ℤ-ind (Same z) (ap remainder (+ℤ-idr z)) (λ n e. one-more z (pos n) e) (λ n e. one-less z (negℤ (pos n)) e) m
@@ -66,15 +73,18 @@ stays : (n : ℕ) → n < 32768 → wrapped (pos n) ≡ pos n
 unfolding wrapped
 stays n h = rw (le-ltb 32767 n (omega arith)) refl
 
+-- a negative number of sixteen bits stays
 stays-negative : (n : ℕ) → n < 32768 → wrapped (negsuc n) ≡ negsuc n
 unfolding wrapped
 stays-negative n h = rw (le-ltb 32767 n (omega arith)) refl
 
+-- a number past the range loses 65,536
 loses : (n : ℕ) → 32768 ≤ n → n < 65536 → wrapped (pos n) ≡ negsuc (65535 - n)
 unfolding wrapped
 loses n h l =
     rw (lt-ltb 32767 n (omega arith)) (sub-under n 65536 l ∙ ap negsuc (omega arith))
 
+-- a number below the range gains 65,536
 gains : (n : ℕ) → 32768 ≤ n → n < 65536 → wrapped (negsuc n) ≡ pos (65535 - n)
 unfolding wrapped
 gains n h l =
@@ -84,6 +94,7 @@ gains n h l =
 read-low : (n r : ℕ) → r ≡ n → n < 32768 → toZ w16 r ≡ pos n
 read-low n r e h = ap (toZ w16) e ∙ toZ-pos w16 h
 
+-- bits in the upper half stand for a negative number
 read-high : (k r : ℕ) → r ≡ 65535 - k → k < 32768 → toZ w16 r ≡ negsuc k
 read-high k r e h = let q : r ≡ 65536 - suc k = omega arith in ap (toZ w16) q ∙ toZ-neg w16 k h
 
@@ -110,11 +121,14 @@ mixed : (m n : ℕ) → m < 32768 → n < 32768 → (m + (65536 - suc n)) % 6553
 mixed m n f g = go (decLe (suc n) m)
   where
     go : Dec (suc n ≤ m) → (m + (65536 - suc n)) % 65536 ≡ remainder (subℕ m (suc n))
-    go (yes h) = let e : (m + (65536 - suc n)) % 65536 ≡ (m - suc n) % 65536 = omega arith in e ∙ ap remainder (sym (sub-over m (suc n) h))
+    go (yes h) =
+        let e : (m + (65536 - suc n)) % 65536 ≡ (m - suc n) % 65536 = omega arith in
+        e ∙ ap remainder (sym (sub-over m (suc n) h))
     go (no h) =
         let e : (m + (65536 - suc n)) % 65536 ≡ 65535 - (suc n - suc m) % 65536 = omega arith in
         e ∙ ap remainder (sym (sub-under m (suc n) (omega arith)))
 
+-- the sum of two numbers' bits has the remainder of their sum
 remainder-sum : (a b : ℤ) → SFits w16 a → SFits w16 b → (ofZ w16 a + ofZ w16 b) % 65536 ≡ remainder (a +ℤ b)
 remainder-sum (pos m) (pos n) f g = refl
 remainder-sum (pos m) (negsuc n) f g = mixed m n (f .sfits) (g .sfits)
@@ -131,6 +145,7 @@ under m n f g = go (decLe (suc n) m)
     go (yes h) = rw (sub-over m (suc n) h) (omega arith)
     go (no h) = rw (sub-under m (suc n) (omega arith)) (omega arith)
 
+-- the sum of two numbers of sixteen bits is below 65,536 either way
 pub sum-below : (a b : ℤ) → SFits w16 a → SFits w16 b → mag (a +ℤ b) < 65536
 sum-below (pos m) (pos n) f g = omega (arith, f .sfits, g .sfits)
 sum-below (pos m) (negsuc n) f g = under m n (f .sfits) (g .sfits)
@@ -142,6 +157,7 @@ remainder-fits : (z : ℤ) → Fits w16 (remainder z)
 remainder-fits (pos n) = record { fits = omega arith }
 remainder-fits (negsuc n) = record { fits = omega arith }
 
+-- so the wrapped number has sixteen bits
 pub wrapped-fits : (z : ℤ) → mag z < 65536 → SFits w16 (wrapped z)
 wrapped-fits z h = subst (SFits w16) (remainder-read z h) (sfits-toZ (remainder-fits z))
 
@@ -164,6 +180,7 @@ pub record Lifted (x : ℤ) : Type 0 where
   pub fits : Fits w16 (natAbs (x +ℤ pos 65536))
   pub is : natAbs (x +ℤ pos 65536) ≡ ofZ w16 x
 
+-- every negative number of sixteen bits is so
 pub lifted : (x : ℤ) → SFits w16 x → ltZ x (pos 0) ≡ true → Lifted x
 lifted (pos n) f t = absurd (let h = ltb-true n 0 t in omega arith)
 lifted (negsuc n) f t =
@@ -181,6 +198,7 @@ pub record Plain (x : ℤ) : Type 0 where
   pub fits : Fits w16 (natAbs x)
   pub is : natAbs x ≡ ofZ w16 x
 
+-- every other one is so
 pub plain : (x : ℤ) → SFits w16 x → ltZ x (pos 0) ≡ false → Plain x
 plain (pos n) f t = record { sign = tt; fits = record { fits = omega (arith, f .sfits) }; is = refl }
 plain (negsuc n) f t = absurd (let z : true ≡ false = t in true≢false z)
@@ -191,6 +209,7 @@ pub record Lowered (x : ℕ) : Type 0 where
   pub fits : SFits w16 (toZ w32 x -ℤ pos 65536)
   pub is : toZ w32 x -ℤ pos 65536 ≡ toZ w16 x
 
+-- all such bits are so
 pub lowered : (x : ℕ) → x < 65536 → 32768 ≤ x → Lowered x
 lowered x h l =
     let u : x < 2 ^ hbits w32 = omega arith in

@@ -1,4 +1,4 @@
--- The stochastic code book (3.3.1): 1,082 elements, 20 to a row, element 0 first, as a run of the printed program makes them.
+-- The stochastic code book (3.3.1): 1,082 elements, 20 to a row, element 0 first, from a run of the printed program.
 -- Elements 993 to 995 are those of the run and not of the print: docs/EVIDENCE.md says why.
 use mathlib.Core.List.{List, [], _∷_}
 use lib.IntN.{ℤ, pos, negsuc}
@@ -13,6 +13,7 @@ abbrev pub +1 : ℤ
 abbrev pub -1 : ℤ
 -1 = negsuc 0
 
+-- the elements
 unfoldable pub book : List ℤ
 book =
     +0 ∷ +1 ∷ +0 ∷ +0 ∷ +0 ∷ +1 ∷ +0 ∷ +0 ∷ +0 ∷ +0 ∷ +0 ∷ +0 ∷ +1 ∷ +0 ∷ +1 ∷ +0 ∷ +0 ∷ +0 ∷ +0 ∷ -1 ∷

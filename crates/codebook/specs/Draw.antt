@@ -1,4 +1,4 @@
--- The draws that the book is made of: the function `random` of 3.3.1, over five kept numbers y and two positions, k and j.
+-- The draws that the book is made of: the function `random` of 3.3.1, over five kept numbers y and two positions k, j.
 use mathlib.Core.Bool.{cond}
 use mathlib.Core.List.{List, [], _∷_}
 use Prim.Native.Nat.{ℕ, zero, suc, _-_, _%_}
@@ -38,6 +38,7 @@ drawnValue g k j = wrapped (keptAt g k +ℤ keptAt g j)
 abbrev pub generatorAfter : Generator → ℕ → ℕ → ℤ → Generator
 generatorAfter g k j v = record { kept = set (g .kept) (k - 1) v; first = movedOf k; second = movedOf j }
 
+-- the draw at two positions
 abbrev pub drawAt : Generator → ℕ → ℕ → Draw
 drawAt g k j = record { value = drawnValue g k j; generator = generatorAfter g k j (drawnValue g k j) }
 

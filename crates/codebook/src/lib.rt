@@ -1,4 +1,4 @@
-// The ternary codes of 3.3: the 1,082 elements, the 512 codes that are cut out of them, and the draws that they were made of.
+// The ternary codes of 3.3: the 1,082 elements, the 512 codes cut out of them, and the draws that they were made of.
 // Code n is sixty elements of the book, two further on than those of code n + 1.
 use std::num::wrapping_add_u16;
 ghost use mathlib.Core.Path.{_≡_};
@@ -108,7 +108,7 @@ fn copy_in(part: &[i8], out: &mut [i8])
     }
 }
 
-// The five kept numbers y of 3.3.1 and the two positions in them: the first is k, where each draw is kept, the second is j.
+// The five kept numbers y of 3.3.1 and two positions in them: the first is k, where each draw is kept, the second j.
 pub struct Generator {
     pub kept: [i16; 5],
     pub first: u16,

@@ -22,9 +22,11 @@ use Rattle.delays.proofs.Table.{rank-byte, byte-below, rank-below, byte
 pub base-high : (rank : ℕ) → baseOf rank ≤ 192
 base-high rank = omega arith
 
+-- the window does not start above the rank before
 pub base-low : (rank : ℕ) → baseOf rank ≤ rank
 base-low rank = omega arith
 
+-- and does not end below it
 pub base-near : (rank : ℕ) → rank < 256 → rank - baseOf rank ≤ 63
 base-near rank h = omega arith
 
@@ -32,9 +34,11 @@ base-near rank h = omega arith
 pub base-start : (rank : ℕ) → rank ≤ 31 → baseOf rank ≡ 0
 base-start rank h = omega arith
 
+-- between the two ends it starts 31 ranks below
 pub base-between : (rank : ℕ) → 31 ≤ rank → rank ≤ 223 → baseOf rank + 31 ≡ rank
 base-between rank h l = omega arith
 
+-- from rank 223 on it is the last 64 ranks
 pub base-end : (rank : ℕ) → 223 ≤ rank → baseOf rank ≡ 192
 base-end rank h = omega arith
 
@@ -50,7 +54,8 @@ rank-upto rank last h l = here (decLe rank last)
     here (yes s) = s
     here (no n) = absurd (omega (arith, twelfths-rise last rank (omega arith) h))
 
--- the same in twelfths, as 3.5.5 has it: after 20.00 to 29.25 the codes run from 20.00 to 38.33, after 115 to 147 from 84 to 147
+-- the same in twelfths, as 3.5.5 has it: after 20.00 to 29.25 the codes run from 20.00 to 38.33, after 115 to 147 from
+-- 84 to 147
 pub window-start : (rank : ℕ) → rank < 256 → twelfthsOf rank ≤ 351
     → (twelfthsOf (afterOf rank 0) ≡ 240) × (twelfthsOf (afterOf rank 63) ≡ 460)
 unfolding delays twelfthsOf
@@ -60,6 +65,7 @@ window-start rank h l =
     let f : afterOf rank 63 ≡ 63 = omega arith in
     (ap twelfthsOf e, ap twelfthsOf f)
 
+-- after 115 samples and more the 64 codes run from 84 to 147 samples
 pub window-end : (rank : ℕ) → rank < 256 → 12 * 115 ≤ twelfthsOf rank
     → (twelfthsOf (afterOf rank 0) ≡ 12 * 84) × (twelfthsOf (afterOf rank 63) ≡ 12 * 147)
 unfolding delays twelfthsOf
@@ -72,8 +78,12 @@ window-end rank h l =
 -- the rank after another is in its window, as far above the base as the code says
 pub after-in : (rank step : ℕ) → step < 64 → inWindow rank (afterOf rank step) ≡ true
 after-in rank step h =
-    simp (le-leb (baseOf rank) (afterOf rank step) (omega arith), le-leb (afterOf rank step) (baseOf rank + 63) (omega arith))
+    simp (
+      le-leb (baseOf rank) (afterOf rank step) (omega arith),
+      le-leb (afterOf rank step) (baseOf rank + 63) (omega arith),
+    )
 
+-- its distance to the base is the code
 after-back : (rank step : ℕ) → afterOf rank step - baseOf rank ≡ step
 after-back rank step = omega arith
 
@@ -95,12 +105,15 @@ module _ (a b c d : ℕ) where
   abbrev pub firstMeant : ℕ
   firstMeant = twelfthsOf (rankOf a)
 
+  -- the delay of subframe 2, after that of 1
   abbrev pub secondMeant : ℕ
   secondMeant = twelfthsOf (afterOf (rankOf a) b)
 
+  -- the delay of subframe 3
   abbrev pub thirdMeant : ℕ
   thirdMeant = twelfthsOf (rankOf c)
 
+  -- the delay of subframe 4, after that of 3
   abbrev pub fourthMeant : ℕ
   fourthMeant = twelfthsOf (afterOf (rankOf c) d)
 
@@ -161,7 +174,8 @@ same-delays : {p q r s w x y z : ℕ} → Delays p q r s ≡ Delays w x y z → 
 same-delays e = cc
 
 -- codes to delays to codes: the codes come back
-pub codes-back : (a b c d w x y z : ℕ) → meantBy (a ∷ b ∷ c ∷ d ∷ []) ≡ Delays w x y z → codedOf (w ∷ x ∷ y ∷ z ∷ []) ≡ Codes a b c d
+pub codes-back : (a b c d w x y z : ℕ) → meantBy (a ∷ b ∷ c ∷ d ∷ []) ≡ Delays w x y z
+    → codedOf (w ∷ x ∷ y ∷ z ∷ []) ≡ Codes a b c d
 unfolding meantBy
 codes-back a b c d w x y z e =
     let m = meant-fit a b c d e in
@@ -171,14 +185,18 @@ codes-back a b c d w x y z e =
 abbrev pub Within : ℕ → Type 0
 Within delay = (240 ≤ delay) × (delay ≤ 1764)
 
+-- the delay of each rank does
 rank-within : (rank : ℕ) → rank < 256 → Within (twelfthsOf rank)
 rank-within rank h = (twelfths-low rank h, twelfths-high rank h)
 
-pub meant-within : (a b c d w x y z : ℕ) → fourMeant a b c d ≡ Delays w x y z → Within w × Within x × Within y × Within z
+-- so all four delays of codes that fit do
+pub meant-within : (a b c d w x y z : ℕ) → fourMeant a b c d ≡ Delays w x y z
+    → Within w × Within x × Within y × Within z
 meant-within a b c d w x y z e =
     let m = meant-fit a b c d e in
     let f = m .0 in
-    let s : Delays (firstMeant a b c d) (secondMeant a b c d) (thirdMeant a b c d) (fourthMeant a b c d) ≡ Delays w x y z = m .1 in (
+    let s : Delays (firstMeant a b c d) (secondMeant a b c d) (thirdMeant a b c d) (fourthMeant a b c d)
+    ≡ Delays w x y z = m .1 in (
       subst Within (cc) (rank-within (rankOf a) (rank-below a (f .first))),
       subst Within (cc) (rank-within (afterOf (rankOf a) b) (after-below (rankOf a) b (f .second))),
       subst Within (cc) (rank-within (rankOf c) (rank-below c (f .third))),
@@ -205,6 +223,7 @@ record Pair (w x a b : ℕ) : Type 0 where
   first : twelfthsOf (rankOf a) ≡ w
   next : twelfthsOf (afterOf (rankOf a) b) ≡ x
 
+-- the codes of two listed delays mean those delays
 pair-back : (w x a b : ℕ) → listed w ≡ true → listed x ≡ true → inWindow (rankWith w) (rankWith x) ≡ true
     → printedByte (rankWith w) ≡ a → rankWith x - baseOf (rankWith w) ≡ b → Pair w x a b
 pair-back w x a b lw lx i ea eb =
@@ -213,7 +232,8 @@ pair-back w x a b lw lx i ea eb =
     let l : a < 256 = omega (arith, byte-below (rankWith w) hw) in
     let f : rankOf a ≡ rankWith w = ap rankOf (sym ea) ∙ rank-byte (rankWith w) hw in
     let s = window-step (rankWith w) (rankWith x) i in
-    let n : afterOf (rankOf a) b ≡ rankWith x = ap (λ (r : ℕ). afterOf r b) f ∙ ap (afterOf (rankWith w)) (sym eb) ∙ s .1 in
+    let n : afterOf (rankOf a) b ≡ rankWith x =
+    ap (λ (r : ℕ). afterOf r b) f ∙ ap (afterOf (rankWith w)) (sym eb) ∙ s .1 in
     record {
       byte = l;
       step = omega (arith, s .0);
@@ -225,6 +245,7 @@ pair-back w x a b lw lx i ea eb =
 not-listed : {a b c d : ℕ} (n : ℕ) → NotListed n ≡ Codes a b c d → ⊥
 not-listed n e = let z : _≡_ {A = ℕ} 0 1 = cc in omega arith
 
+-- nor is one for the window
 outside : {a b c d : ℕ} (n : ℕ) → OutsideWindow n ≡ Codes a b c d → ⊥
 outside n e = let z : _≡_ {A = ℕ} 0 1 = cc in omega arith
 
@@ -239,13 +260,15 @@ pair-on n p q rest e =
 
 -- delays to codes to delays: delays that are accepted come back
 module _ (w x y z a b c d : ℕ) where
+  -- the codes that are answered mean the delays that were given
   pub delays-back : codedOf (w ∷ x ∷ y ∷ z ∷ []) ≡ Codes a b c d → meantBy (a ∷ b ∷ c ∷ d ∷ []) ≡ Delays w x y z
   unfolding codedOf meantBy
   delays-back e =
       let on = pair-on 1 w x _ e in
       let off = pair-on 3 y z _ (on .3) in
       let step = rankWith x - baseOf (rankWith w) in
-      let last : Codes (printedByte (rankWith w)) step (printedByte (rankWith y)) (rankWith z - baseOf (rankWith y)) ≡ Codes a b c d =
+      let last : Codes (printedByte (rankWith w)) step (printedByte (rankWith y)) (rankWith z - baseOf (rankWith y))
+      ≡ Codes a b c d =
       off .3 in
       let p = pair-back w x a b (on .0) (on .1) (on .2) (cc) (cc) in
       let q = pair-back y z c d (off .0) (off .1) (off .2) (cc) (cc) in

@@ -1,5 +1,5 @@
--- A pair of subframes, 1 and 2 or 3 and 4: what each test of `coded_pair` tells of the definitions, and how the answers for two pairs
--- make those for four subframes.
+-- A pair of subframes, 1 and 2 or 3 and 4: what each test of `coded_pair` tells of the definitions, and how the answers
+-- for two pairs make those for four subframes.
 -- Assumes nothing.
 use mathlib.Core.Path.{_≡_, _∙_, sym, refl, ap}
 use mathlib.Core.Bool.{Bool, true, false}
@@ -28,9 +28,11 @@ next-below rank b h e = omega arith
 
 -- the rank that a code of subframe 1 or 3 means, from the table lent
 module _ {ranks : List ℕ} (t : ranks ≡ tabulate rankOf 256) (a : ℕ) (h : a ≤ 255) where
+  -- the table lent has the rank of each byte
   rank-read : getD ranks a 0 ≡ rankOf a
   rank-read = rw t (getD-tabulate rankOf 0 256 a (omega arith))
 
+  -- which is one of the 256
   pub rank-read-below : getD ranks a 0 < 256
   rank-read-below = rw rank-read (rank-below a (omega arith))
 
@@ -42,6 +44,7 @@ module _ {ranks : List ℕ} (t : ranks ≡ tabulate rankOf 256) (a : ℕ) (h : a
 
 -- four codes: each that is too large is told by its subframe, past those that are not
 module _ (codes : List ℕ) where
+  -- the code of subframe 1 has more than eight bits
   pub first-large : 255 < getD codes 0 0 → TooLarge 1 ≡ meantBy codes
   unfolding meantBy
   first-large h = rw (lt-leb (getD codes 0 0) 255 h)
@@ -54,7 +57,8 @@ module _ (codes : List ℕ) where
     module _ (second : getD codes 1 0 ≤ 63) where
       pub third-large : 255 < getD codes 2 0 → TooLarge 3 ≡ meantBy codes
       unfolding meantBy
-      third-large h = rw (le-leb (getD codes 0 0) 255 first, le-leb (getD codes 1 0) 63 second, lt-leb (getD codes 2 0) 255 h)
+      third-large h =
+          rw (le-leb (getD codes 0 0) 255 first, le-leb (getD codes 1 0) 63 second, lt-leb (getD codes 2 0) 255 h)
 
       module _ (third : getD codes 2 0 ≤ 255) where
         pub fourth-large : 63 < getD codes 3 0 → TooLarge 4 ≡ meantBy codes
@@ -84,6 +88,7 @@ module _ (codes : List ℕ) where
 
 -- delays of a and b twelfths, which have the ranks r and s
 module _ (a b : ℕ) {r : ℕ} (first : r ≡ rankWith a) where
+  -- a first delay that is not listed is refused
   pub first-unlisted : 255 < r → FirstNotListed ≡ codedPair a b
   unfolding codedPair
   first-unlisted h = let u : ltb (rankWith a) 256 ≡ false = le-ltb (rankWith a) 256 (omega arith) in rw u
@@ -139,37 +144,47 @@ carried-tests n r s rest true false w = refl
 carried-tests n r s rest true true false = refl
 carried-tests n r s rest true true true = refl
 
+-- a pair's answer, carried to subframes n and n + 1, is what the definition says of them
 pair-carried : (n a b : ℕ) (rest : ℕ → ℕ → Coded)
     → carried n (codedPair a b) rest ≡ pairOf n a b (rest (rankWith a) (rankWith b - baseOf (rankWith a)))
 unfolding codedPair
 pair-carried n a b rest =
-    carried-tests n (rankWith a) (rankWith b - baseOf (rankWith a)) rest (listed a) (listed b) (inWindow (rankWith a) (rankWith b))
+    carried-tests n (rankWith a) (rankWith b - baseOf (rankWith a)) rest (listed a) (listed b)
+    (inWindow (rankWith a) (rankWith b))
 
 -- the codes from the table of bytes
 module _ {table : List ℕ} (t : table ≡ bytes) where
+  -- each byte of the table lent is below 256
   pub byte-read-below : (rank : ℕ) → rank < 256 → getD table rank 0 < 256
   unfolding printedByte
   byte-read-below rank h = rw t (byte-below rank h)
 
+  -- two bytes read from it make the four codes
   pub four-codes : (r s u v : ℕ) → Codes (getD table r 0) s (getD table u 0) v ≡ bothInside r s u v
   unfolding printedByte
   four-codes r s u v = rw t
 
 -- what the first pair's answer makes of four delays, and what the second's does past it
 module _ (t : List ℕ) where
+  -- what comes after the first pair: the second, and then the codes
   abbrev pub later : ℕ → ℕ → Coded
   later r s = carried 3 (codedPair (getD t 2 0) (getD t 3 0)) (bothInside r s)
 
+  -- both pairs, one carried after the other, are the four delays
   whole : carried 1 (codedPair (getD t 0 0) (getD t 1 0)) later ≡ codedOf t
   unfolding codedOf
   whole =
       pair-carried 1 (getD t 0 0) (getD t 1 0) later
       ∙ ap (pairOf 1 (getD t 0 0) (getD t 1 0))
-      (pair-carried 3 (getD t 2 0) (getD t 3 0) (bothInside (rankWith (getD t 0 0)) (rankWith (getD t 1 0) - baseOf (rankWith (getD t 0 0)))))
+      (pair-carried 3 (getD t 2 0) (getD t 3 0)
+      (bothInside (rankWith (getD t 0 0)) (rankWith (getD t 1 0) - baseOf (rankWith (getD t 0 0)))))
 
+  -- so where the first pair's answer is known, that carried is the whole answer
   pub by-first : {p : Pair} → codedPair (getD t 0 0) (getD t 1 0) ≡ p → carried 1 p later ≡ codedOf t
   by-first e = ap (λ (x : Pair). carried 1 x later) (sym e) ∙ whole
 
-  pub by-second : {r s : ℕ} {q : Pair} → codedPair (getD t 0 0) (getD t 1 0) ≡ Inside r s → codedPair (getD t 2 0) (getD t 3 0) ≡ q
+  -- and past a first pair inside its window, the second pair's
+  pub by-second : {r s : ℕ} {q : Pair} → codedPair (getD t 0 0) (getD t 1 0) ≡ Inside r s
+      → codedPair (getD t 2 0) (getD t 3 0) ≡ q
       → carried 3 q (bothInside r s) ≡ codedOf t
   by-second {r} {s} e f = ap (λ (x : Pair). carried 3 x (bothInside r s)) (sym f) ∙ by-first e

@@ -17,8 +17,10 @@ unfoldable pub evenOf : ℕ → Bool
 evenOf delay =
     cond (ltb delay 240) false
     (cond (ltb delay 312) (eqb (delay % 4) 0)
-    (cond (ltb delay 408) (eqb (delay % 3) 0) (cond (ltb delay 960) (eqb (delay % 4) 0) (cond (ltb delay 1776) (eqb (delay % 12) 0) false))))
+    (cond (ltb delay 408) (eqb (delay % 3) 0)
+    (cond (ltb delay 960) (eqb (delay % 4) 0) (cond (ltb delay 1776) (eqb (delay % 12) 0) false))))
 
+-- every delay of the list is so
 even-twelfths : (rank : ℕ) → rank < 256 → T (evenOf (twelfthsOf rank))
 unfolding delays twelfthsOf evenOf
 even-twelfths rank h = at 0 (λ k x. evenOf x) delays tt rank h
@@ -38,15 +40,23 @@ has delay rank h e = sym (rank-twelfths rank h) ∙ ap rankWith (twelfths-stretc
 
 -- what each way through the search answers
 module _ {delay : ℕ} where
+  -- a delay under 20 samples has no rank
   pub too-short : delay < 240 → 256 ≡ rankWith delay
   unfolding evenOf
   too-short h = unlisted delay (simp (lt-ltb delay 240 h))
 
+  -- a delay of 148 samples or more has none
   pub too-long : 1776 ≤ delay → 256 ≡ rankWith delay
   unfolding evenOf
   too-long l =
       unlisted delay
-      (simp (le-ltb delay 240 (omega arith), le-ltb delay 312 (omega arith), le-ltb delay 408 (omega arith), le-ltb delay 960 (omega arith), le-ltb delay 1776 l))
+      (simp (
+        le-ltb delay 240 (omega arith),
+        le-ltb delay 312 (omega arith),
+        le-ltb delay 408 (omega arith),
+        le-ltb delay 960 (omega arith),
+        le-ltb delay 1776 l,
+      ))
 
   module _ (l : 240 ≤ delay) (h : delay < 312) where
     pub first-thirds : delay % 4 ≡ 0 → (delay - 240) / 4 ≡ rankWith delay
@@ -69,7 +79,9 @@ module _ {delay : ℕ} where
 
     pub no-quarter : (delay % 3 ≡ 0 → ⊥) → 256 ≡ rankWith delay
     unfolding evenOf
-    no-quarter n = unlisted delay (simp (le-ltb delay 240 (omega arith), le-ltb delay 312 l, lt-ltb delay 408 h, ne-eqb (delay % 3) 0 n))
+    no-quarter n =
+        unlisted delay
+        (simp (le-ltb delay 240 (omega arith), le-ltb delay 312 l, lt-ltb delay 408 h, ne-eqb (delay % 3) 0 n))
 
   module _ (l : 408 ≤ delay) (h : delay < 960) where
     pub second-thirds : delay % 4 ≡ 0 → 50 + (delay - 408) / 4 ≡ rankWith delay
@@ -84,7 +96,13 @@ module _ {delay : ℕ} where
     unfolding evenOf
     no-second-third n =
         unlisted delay
-        (simp (le-ltb delay 240 (omega arith), le-ltb delay 312 (omega arith), le-ltb delay 408 l, lt-ltb delay 960 h, ne-eqb (delay % 4) 0 n))
+        (simp (
+          le-ltb delay 240 (omega arith),
+          le-ltb delay 312 (omega arith),
+          le-ltb delay 408 l,
+          lt-ltb delay 960 h,
+          ne-eqb (delay % 4) 0 n,
+        ))
 
   module _ (l : 960 ≤ delay) (h : delay < 1776) where
     pub wholes : delay % 12 ≡ 0 → 188 + (delay - 960) / 12 ≡ rankWith delay

@@ -16,6 +16,7 @@ use Rattle.laws.proofs.Place.{place-entry, place-back}
 use Rattle.laws.proofs.Tabulate.{length-tabulate, getD-tabulate}
 use Rattle.delays.specs.Table.{delays, bytes, twelfthsOf, stretched, printedByte, rankOf, rankWith}
 
+-- there are 256 delays
 pub delays-long : length delays ≡ 256
 unfolding delays
 delays-long = refl
@@ -23,13 +24,15 @@ delays-long = refl
 -- the list of delays is that of the four stretches
 pub twelfths-stretched : (rank : ℕ) → rank < 256 → twelfthsOf rank ≡ stretched rank
 unfolding delays twelfthsOf stretched
-twelfths-stretched rank h = eqb→eq (twelfthsOf rank) (stretched rank) (at 0 (λ k x. eqb x (stretched k)) delays tt rank h)
+twelfths-stretched rank h =
+    eqb→eq (twelfthsOf rank) (stretched rank) (at 0 (λ k x. eqb x (stretched k)) delays tt rank h)
 
 -- the shortest delay is 20 samples, the longest 147
 pub twelfths-low : (rank : ℕ) → rank < 256 → 240 ≤ twelfthsOf rank
 unfolding delays twelfthsOf
 twelfths-low rank h = leb→le 240 (twelfthsOf rank) (at 0 (λ k x. leb 240 x) delays tt rank h)
 
+-- no delay is longer than 147 samples
 pub twelfths-high : (rank : ℕ) → rank < 256 → twelfthsOf rank ≤ 1764
 unfolding delays twelfthsOf
 twelfths-high rank h = leb→le (twelfthsOf rank) 1764 (at 0 (λ k x. leb x 1764) delays tt rank h)
@@ -39,7 +42,8 @@ twelfths-step : (rank : ℕ) → rank < 255 → twelfthsOf rank < twelfthsOf (su
 unfolding delays twelfthsOf stretched
 twelfths-step rank h =
     rw (twelfths-stretched (suc rank) (omega arith))
-    (leb→le (suc (twelfthsOf rank)) (stretched (suc rank)) (at 0 (λ k x. leb (suc x) (stretched (suc k))) delays tt rank (omega arith)))
+    (leb→le (suc (twelfthsOf rank)) (stretched (suc rank))
+    (at 0 (λ k x. leb (suc x) (stretched (suc k))) delays tt rank (omega arith)))
 
 -- twelfths rise with the rank
 pub twelfths-rise : (low high : ℕ) → low < high → high < 256 → twelfthsOf low < twelfthsOf high
@@ -48,7 +52,9 @@ twelfths-rise low (suc high) l h = here (ℕ-discrete low high) (λ k. twelfths-
   where
     here : Dec (low ≡ high) → (low < high → twelfthsOf low < twelfthsOf high) → twelfthsOf low < twelfthsOf (suc high)
     here (yes e) below = rw e (twelfths-step high (omega arith))
-    here (no n) below = let b : twelfthsOf low < twelfthsOf high = below (omega arith) in omega (arith, twelfths-step high (omega arith))
+    here (no n) below =
+        let b : twelfthsOf low < twelfthsOf high = below (omega arith) in
+        omega (arith, twelfths-step high (omega arith))
 
 -- the rank that the four stretches give for a delay in twelfths
 unfoldable pub candidateOf : ℕ → ℕ
@@ -61,13 +67,15 @@ candidateOf delay =
 -- it leads from each rank's twelfths back to that rank
 pub candidate-twelfths : (rank : ℕ) → rank < 256 → candidateOf (twelfthsOf rank) ≡ rank
 unfolding delays twelfthsOf candidateOf
-candidate-twelfths rank h = eqb→eq (candidateOf (twelfthsOf rank)) rank (at 0 (λ k x. eqb (candidateOf x) k) delays tt rank h)
+candidate-twelfths rank h =
+    eqb→eq (candidateOf (twelfthsOf rank)) rank (at 0 (λ k x. eqb (candidateOf x) k) delays tt rank h)
 
 -- so each delay stands in the list once: the rank of a rank's twelfths is that rank
 pub rank-twelfths : (rank : ℕ) → rank < 256 → rankWith (twelfthsOf rank) ≡ rank
 unfolding twelfthsOf rankWith
 rank-twelfths rank h =
-    place-back candidateOf delays (λ k l. candidate-twelfths k (omega (arith, delays-long))) rank (omega (arith, delays-long))
+    place-back candidateOf delays (λ k l. candidate-twelfths k (omega (arith, delays-long))) rank
+    (omega (arith, delays-long))
 
 -- a listed delay is the twelfths of its rank
 pub twelfths-rank : (delay : ℕ) → rankWith delay < 256 → twelfthsOf (rankWith delay) ≡ delay
@@ -99,19 +107,28 @@ ranks-test : T (every (λ b r. both (leb (suc r) 256) (eqb (printedByte r) b)) 0
 unfolding bytes printedByte ranks
 ranks-test = tt
 
+-- there are 256 ranks by byte
 ranks-long : length ranks ≡ 256
 unfolding ranks
 ranks-long = refl
 
 module _ (byte : ℕ) (h : byte < 256) where
+  -- what the test says of one byte
   ranks-at : T (both (leb (suc (getD ranks byte 0)) 256) (eqb (printedByte (getD ranks byte 0)) byte))
-  ranks-at = at 0 (λ b r. both (leb (suc r) 256) (eqb (printedByte r) b)) ranks ranks-test byte (omega (arith, ranks-long))
+  ranks-at =
+      at 0 (λ b r. both (leb (suc r) 256) (eqb (printedByte r) b)) ranks ranks-test byte (omega (arith, ranks-long))
 
+  -- its entry is one of the 256 ranks
   ranks-below : getD ranks byte 0 < 256
-  ranks-below = leb→le (suc (getD ranks byte 0)) 256 (both-left (leb (suc (getD ranks byte 0)) 256) (eqb (printedByte (getD ranks byte 0)) byte) ranks-at)
+  ranks-below =
+      leb→le (suc (getD ranks byte 0)) 256
+      (both-left (leb (suc (getD ranks byte 0)) 256) (eqb (printedByte (getD ranks byte 0)) byte) ranks-at)
 
+  -- and the byte printed for that rank is the byte
   ranks-byte : printedByte (getD ranks byte 0) ≡ byte
-  ranks-byte = eqb→eq (printedByte (getD ranks byte 0)) byte (both-right (leb (suc (getD ranks byte 0)) 256) (eqb (printedByte (getD ranks byte 0)) byte) ranks-at)
+  ranks-byte =
+      eqb→eq (printedByte (getD ranks byte 0)) byte
+      (both-right (leb (suc (getD ranks byte 0)) 256) (eqb (printedByte (getD ranks byte 0)) byte) ranks-at)
 
 -- each byte stands in the table once: the rank of a rank's byte is that rank
 pub rank-byte : (rank : ℕ) → rank < 256 → rankOf (printedByte rank) ≡ rank
@@ -120,6 +137,7 @@ rank-byte rank h =
     place-back (λ (b : ℕ). getD ranks b 0) bytes
     (λ k l. eqb→eq (getD ranks (printedByte k) 0) k (at 0 (λ i x. eqb (getD ranks x 0) i) bytes tt k l)) rank h
 
+-- each printed code is a byte
 pub byte-below : (rank : ℕ) → rank < 256 → printedByte rank < 256
 unfolding bytes printedByte
 byte-below rank h = leb→le (suc (printedByte rank)) 256 (at 0 (λ k x. leb (suc x) 256) bytes tt rank h)
@@ -132,6 +150,7 @@ ranks-rank byte h = sym (rank-byte (getD ranks byte 0) (ranks-below byte h)) ∙
 pub rank-below : (byte : ℕ) → byte < 256 → rankOf byte < 256
 rank-below byte h = rw (sym (ranks-rank byte h)) (ranks-below byte h)
 
+-- and the byte of its rank is the byte itself
 pub byte-rank : (byte : ℕ) → byte < 256 → printedByte (rankOf byte) ≡ byte
 byte-rank byte h = ap printedByte (sym (ranks-rank byte h)) ∙ ranks-byte byte h
 

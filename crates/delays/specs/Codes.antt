@@ -20,14 +20,16 @@ baseOf rank = min (rank - 31) 192
 abbrev pub afterOf : ℕ → ℕ → ℕ
 afterOf rank step = baseOf rank + step
 
--- the delays in twelfths that codes a and c, of eight bits, and b and d, of six, mean; or the first subframe whose code is too large
+-- the delays in twelfths that codes a and c, of eight bits, and b and d, of six, mean; or the first subframe whose code
+-- is too large
 abbrev pub fourMeant : ℕ → ℕ → ℕ → ℕ → Meant
 fourMeant a b c d =
     unless (leb a 255) (TooLarge 1)
     (unless (leb b 63) (TooLarge 2)
     (unless (leb c 255) (TooLarge 3)
     (unless (leb d 63) (TooLarge 4)
-    (Delays (twelfthsOf (rankOf a)) (twelfthsOf (afterOf (rankOf a) b)) (twelfthsOf (rankOf c)) (twelfthsOf (afterOf (rankOf c) d))))))
+    (Delays (twelfthsOf (rankOf a)) (twelfthsOf (afterOf (rankOf a) b))
+    (twelfthsOf (rankOf c)) (twelfthsOf (afterOf (rankOf c) d))))))
 
 -- what a record's four indices mean
 unfoldable pub meantBy : List ℕ → Meant
@@ -45,14 +47,16 @@ inWindow before rank = both (leb (baseOf before) rank) (leb rank (baseOf before 
 abbrev pub pairOf : ℕ → ℕ → ℕ → Coded → Coded
 pairOf n a b rest =
     unless (listed a) (NotListed n)
-    (unless (listed b) (NotListed (n + 1)) (unless (inWindow (rankWith a) (rankWith b)) (OutsideWindow (n + 1)) rest))
+    (unless (listed b) (NotListed (n + 1))
+    (unless (inWindow (rankWith a) (rankWith b)) (OutsideWindow (n + 1)) rest))
 
 -- the codes of delays of a, b, c and d twelfths, or the first refusal; subframe 3 does not look at 2
 abbrev pub fourOf : ℕ → ℕ → ℕ → ℕ → Coded
 fourOf a b c d =
     pairOf 1 a b
     (pairOf 3 c d
-    (Codes (printedByte (rankWith a)) (rankWith b - baseOf (rankWith a)) (printedByte (rankWith c)) (rankWith d - baseOf (rankWith c))))
+    (Codes (printedByte (rankWith a)) (rankWith b - baseOf (rankWith a))
+    (printedByte (rankWith c)) (rankWith d - baseOf (rankWith c))))
 
 -- the codes of a list of four delays in twelfths, or the first refusal
 unfoldable pub codedOf : List ℕ → Coded
@@ -75,6 +79,7 @@ abbrev pub meantRefusal : Meant → ℕ
 meantRefusal (Delays a b c d) = 0
 meantRefusal (TooLarge subframe) = 2
 
+-- field 10 + 4(n-1) + 1 for subframe n
 abbrev pub meantTells : Meant → List ℕ
 meantTells (Delays a b c d) = []
 meantTells (TooLarge subframe) = (10 + 4 * (subframe - 1) + 1) ∷ []

@@ -1,4 +1,4 @@
--- What the private functions answer on the way to four delays or four codes: one pair of subframes, and both pairs together.
+-- What the private functions answer on the way to four delays or four codes: one pair of subframes, and both pairs.
 use mathlib.Core.List.{List, [], _∷_}
 use Prim.Native.Nat.{ℕ, _-_}
 use Rattle.laws.specs.Unless.{unless}
@@ -13,13 +13,16 @@ use Rattle.delays.specs.declared.Pair.the-variants.{Inside, FirstNotList
 abbrev pub meantPair : ℕ → ℕ → List ℕ
 meantPair a b = twelfthsOf (rankOf a) ∷ twelfthsOf (afterOf (rankOf a) b) ∷ []
 
--- delays of a and b twelfths in subframes 1 and 2, or 3 and 4: the rank of the first and the code of the second, or what is refused
+-- delays of a and b twelfths in subframes 1 and 2, or 3 and 4: the rank of the first and the code of the second, or
+-- what is refused
 unfoldable pub codedPair : ℕ → ℕ → Pair
 codedPair a b =
     unless (listed a) FirstNotListed
     (unless (listed b) SecondNotListed
-    (unless (inWindow (rankWith a) (rankWith b)) SecondOutside (Inside (rankWith a) (rankWith b - baseOf (rankWith a)))))
+    (unless (inWindow (rankWith a) (rankWith b)) SecondOutside
+    (Inside (rankWith a) (rankWith b - baseOf (rankWith a)))))
 
--- the codes of two pairs inside their windows, from the ranks of the first and third delay and the codes of the second and fourth
+-- the codes of two pairs inside their windows, from the ranks of the first and third delay and the codes of the second
+-- and fourth
 abbrev pub bothInside : ℕ → ℕ → ℕ → ℕ → Coded
 bothInside r s u v = Codes (printedByte r) s (printedByte u) v

@@ -1,5 +1,5 @@
-// The adaptive code's delays: 256 of them, known by their rank, each with its twelfths of a sample and its printed byte (3.5.4),
-// and the window of 64 ranks in which subframes 2 and 4 code theirs (3.5.5).
+// The adaptive code's delays: 256 of them, known by their rank, each with its twelfths of a sample and its printed byte
+// (3.5.4), and the window of 64 ranks in which subframes 2 and 4 code theirs (3.5.5).
 // A table is taken once in a call, by one of the three functions that answer a table, and lent on.
 ghost use mathlib.Core.Path.{_≡_};
 ghost use Prim.Native.Nat.{_≤_};
@@ -93,7 +93,8 @@ pub enum Coded {
     OutsideWindow(u16),
 }
 
-// The delays of subframes 1 and 2, or 3 and 4: the rank of the first and the six-bit code of the second, or what the refusal is.
+// The delays of subframes 1 and 2, or 3 and 4: the rank of the first and the six-bit code of the second, or what the
+// refusal is.
 enum Pair {
     Inside(u8, u8),
     FirstNotListed,
@@ -135,7 +136,8 @@ fn rank_with(delay: u32) -> u16
     256
 }
 
-// Two delays in twelfths, of subframes 1 and 2 or of 3 and 4: whether each is in the list, then whether the second is in the window.
+// Two delays in twelfths, of subframes 1 and 2 or of 3 and 4: whether each is in the list, then whether the second is
+// in the window.
 fn coded_pair(first: u32, second: u32) -> Pair
     ensures { λ r. ⌜ r ≡ codedPair first second ⌝ }
 {
@@ -158,7 +160,8 @@ fn coded_pair(first: u32, second: u32) -> Pair
     Pair::Inside(before as u8, step as u8)
 }
 
-// The codes where both pairs are inside their windows: the printed bytes of the first and third delay's ranks, and the second and fourth code.
+// The codes where both pairs are inside their windows: the printed bytes of the first and third delay's ranks, and the
+// second and fourth code.
 fn both_inside(first: u8, second: u8, third: u8, fourth: u8) -> Coded
     ensures { λ r. ⌜ r ≡ bothInside first second third fourth ⌝ }
 {
@@ -168,7 +171,8 @@ fn both_inside(first: u8, second: u8, third: u8, fourth: u8) -> Coded
     Coded::Codes(a as u16, second as u16, c as u16, fourth as u16)
 }
 
-// The codes of four delays in twelfths: subframe by subframe, first whether the delay is in the list, then whether it is in the window.
+// The codes of four delays in twelfths: subframe by subframe, first whether the delay is in the list, then whether it
+// is in the window.
 pub fn codes(delays: [u32; 4]) -> Coded
     ensures { λ r. ⌜ r ≡ codedOf delays ⌝ }
 {

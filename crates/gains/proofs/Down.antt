@@ -14,7 +14,8 @@ use Rattle.gains.specs.Nearest.{apart, apartAt, nearestOf}
 use Rattle.laws.proofs.Held.{held}
 use Rattle.gains.proofs.Laws.{nearest-only}
 
--- of n places, those from i on are passed: best is one of them and so far away, none is nearer, and each below best is farther
+-- of n places, those from i on are passed: best is one of them and so far away, none is nearer, and each below best is
+-- farther
 pub record Passed (far : ℕ → ℕ) (n i best near : ℕ) : Type 0 where
   pub from : i ≤ best
   pub within : best < n
@@ -35,7 +36,8 @@ module _ (far : ℕ → ℕ) (n : ℕ) where
       }
 
   -- the next place down is as near or nearer
-  pub as-near : {i best near d : ℕ} → Passed far n i best near → 0 < i → d ≡ far (i - 1) → d ≤ near → Passed far n (i - 1) (i - 1) d
+  pub as-near : {i best near d : ℕ} → Passed far n i best near → 0 < i → d ≡ far (i - 1) → d ≤ near
+      → Passed far n (i - 1) (i - 1) d
   as-near {i} {best} {near} {d} p h e l =
       record {
         from = omega arith;
@@ -50,7 +52,8 @@ module _ (far : ℕ → ℕ) (n : ℕ) where
       least′ k a b (no w) = let v : near ≤ far k = p .least k (omega arith) b in omega arith
 
   -- the next place down is farther
-  pub farther : {i best near d : ℕ} → Passed far n i best near → 0 < i → d ≡ far (i - 1) → near < d → Passed far n (i - 1) best near
+  pub farther : {i best near d : ℕ} → Passed far n i best near → 0 < i → d ≡ far (i - 1) → near < d
+      → Passed far n (i - 1) best near
   farther {i} {best} {near} {d} p h e l =
       record {
         from = omega (arith, p .from);
@@ -69,7 +72,8 @@ module _ (far : ℕ → ℕ) (n : ℕ) where
       lowest′ k a b (no w) = p .lowest k (omega arith) b
 
 -- the distance to an entry that was read into a local
-pub read-apart : {w : Width} (x : ℤ) {entry : ℤ} {d : ℕ} → SFits w entry → d ≡ apart x (held w entry) → d ≡ apart x entry
+pub read-apart : {w : Width} (x : ℤ) {entry : ℤ} {d : ℕ} → SFits w entry → d ≡ apart x (held w entry)
+    → d ≡ apart x entry
 read-apart x f e = e ∙ ap (apart x) (toZ-ofZ f)
 
 -- the loop has come to index 0

@@ -25,6 +25,7 @@ module _ (x : ℤ) where
   abbrev notNearer : ℤ → ℕ → ℤ → Bool
   notNearer e k later = leb (apart x e) (apart x later)
 
+  -- no entry of a list is nearer than e
   abbrev noneNearer : ℤ → List ℤ → Bool
   noneNearer e es = every (notNearer e) 0 es
 
@@ -48,7 +49,8 @@ module _ (x : ℤ) where
           absurd
           (subst T t
           (every-of (pos 0) (notNearer e) es
-          (λ k b. le→leb (apart x e) (apartAt es x k) (let l : apartAt es x i ≤ apartAt es x k = p .least k b in omega arith))))
+          (λ k b. le→leb (apart x e) (apartAt es x k)
+          (let l : apartAt es x i ≤ apartAt es x k = p .least k b in omega arith))))
 
   -- and it is the nearest of all, one index further on
   later : (e : ℤ) (es : List ℤ) (i : ℕ) → noneNearer e es ≡ false → Nearest es x i → Nearest (e ∷ es) x (suc i)
@@ -65,7 +67,8 @@ module _ (x : ℤ) where
       lowest′ n (suc k) h = p .lowest k (omega arith)
 
   -- so the test decides between the two
-  either : (e : ℤ) (es : List ℤ) (i : ℕ) (b : Bool) → noneNearer e es ≡ b → (b ≡ false → Nearest es x i) → Nearest (e ∷ es) x (cond b 0 (suc i))
+  either : (e : ℤ) (es : List ℤ) (i : ℕ) (b : Bool) → noneNearer e es ≡ b → (b ≡ false → Nearest es x i)
+      → Nearest (e ∷ es) x (cond b 0 (suc i))
   either e es i true t p = first e es t
   either e es i false t p = later e es i t (p refl)
 
@@ -112,6 +115,7 @@ module _ (table : List ℤ) (i : ℕ) where
   pub number-too-large : 31 < i → refusalOf (gainOf table i) ≡ 2
   number-too-large h = ap refusalOf (gain-too-large h)
 
+  -- an index to 31 has refusal number 0
   pub number-none : i ≤ 31 → refusalOf (gainOf table i) ≡ 0
   number-none h = ap refusalOf (gain-value h)
 
@@ -130,6 +134,7 @@ pub record Ranged (low high : ℤ) (size : ℕ) (v : ℤ) : Type 0 where
   pub small : natAbs v ≤ size
 
 module _ (low high : ℤ) (size : ℕ) where
+  -- the same as a test
   abbrev inRange : ℕ → ℤ → Bool
   inRange i v = both (leZ low v) (both (leZ v high) (leb (natAbs v) size))
 
@@ -140,14 +145,20 @@ module _ (low high : ℤ) (size : ℕ) where
       let b = leZ v high in
       let c = leb (natAbs v) size in
       let rest = both-right a (both b c) t in
-      record { above = leZ-yes (both-left a (both b c) t); below = leZ-yes (both-left b c rest); small = leb→le (natAbs v) size (both-right b c rest) }
+      record {
+        above = leZ-yes (both-left a (both b c) t);
+        below = leZ-yes (both-left b c rest);
+        small = leb→le (natAbs v) size (both-right b c rest);
+      }
 
   -- a table over which it passes has only such entries
-  all-ranged : (table : List ℤ) → T (every inRange 0 table) → length table ≡ 32 → (i : ℕ) → i ≤ 31 → Ranged low high size (getD table i (pos 0))
+  all-ranged : (table : List ℤ) → T (every inRange 0 table) → length table ≡ 32 → (i : ℕ) → i ≤ 31
+      → Ranged low high size (getD table i (pos 0))
   all-ranged table t l i h = ranged i (getD table i (pos 0)) (at (pos 0) inRange table t i (omega arith))
 
   -- and answers only such gains
-  given-ranged : (table : List ℤ) → T (every inRange 0 table) → length table ≡ 32 → (i : ℕ) (v : ℤ) → gainOf table i ≡ Value v → Ranged low high size v
+  given-ranged : (table : List ℤ) → T (every inRange 0 table) → length table ≡ 32 → (i : ℕ) (v : ℤ)
+      → gainOf table i ≡ Value v → Ranged low high size v
   given-ranged table t l i v e =
       let g = gain-given table i v e in
       subst (Ranged low high size) (sym (g .1)) (all-ranged table t l i (g .0))
@@ -157,6 +168,7 @@ pub cg-length : length cgTable ≡ 32
 unfolding cgTable
 cg-length = refl
 
+-- PG has 32 entries, too
 pub pg-length : length pgTable ≡ 32
 unfolding pgTable
 pg-length = refl
@@ -166,6 +178,7 @@ cg-test : T (every (inRange (minus 1330) (plus 1330) 1330) 0 cgTable)
 unfolding cgTable
 cg-test = tt
 
+-- the test over PG
 pg-test : T (every (inRange (minus 993) (plus 1991) 1991) 0 pgTable)
 unfolding pgTable
 pg-test = tt
@@ -174,6 +187,7 @@ pg-test = tt
 pub cg-range : (i : ℕ) → i ≤ 31 → Ranged (minus 1330) (plus 1330) 1330 (getD cgTable i (pos 0))
 cg-range = all-ranged _ _ _ cgTable cg-test cg-length
 
+-- every PG entry is from -993 to 1991
 pub pg-range : (i : ℕ) → i ≤ 31 → Ranged (minus 993) (plus 1991) 1991 (getD pgTable i (pos 0))
 pg-range = all-ranged _ _ _ pgTable pg-test pg-length
 
@@ -181,6 +195,7 @@ pg-range = all-ranged _ _ _ pgTable pg-test pg-length
 pub cg-value-range : (i : ℕ) (v : ℤ) → cgOf i ≡ Value v → Ranged (minus 1330) (plus 1330) 1330 v
 cg-value-range = given-ranged _ _ _ cgTable cg-test cg-length
 
+-- every PG that is answered is from -993 to 1991
 pub pg-value-range : (i : ℕ) (v : ℤ) → pgOf i ≡ Value v → Ranged (minus 993) (plus 1991) 1991 v
 pg-value-range = given-ranged _ _ _ pgTable pg-test pg-length
 
@@ -188,10 +203,12 @@ pg-value-range = given-ranged _ _ _ pgTable pg-test pg-length
 abbrev mirrored : ℕ → ℤ → Bool
 mirrored i v = same v (negℤ (getD cgTable (31 - i) (pos 0)))
 
+-- tested over the whole table
 cg-mirror-test : T (every mirrored 0 cgTable)
 unfolding cgTable
 cg-mirror-test = tt
 
+-- so it is at each index
 pub cg-mirrored : (i : ℕ) → i ≤ 31 → getD cgTable i (pos 0) ≡ negℤ (getD cgTable (31 - i) (pos 0))
 cg-mirrored i h = same→eq _ _ (at (pos 0) mirrored cgTable cg-mirror-test i (omega (arith, cg-length)))
 
@@ -199,17 +216,21 @@ cg-mirrored i h = same→eq _ _ (at (pos 0) mirrored cgTable cg-mirror-test i (o
 abbrev returning : List ℤ → ℕ → ℤ → Bool
 returning table i v = eqb (nearestOf table v) i
 
+-- tested over CG
 cg-back-test : T (every (returning cgTable) 0 cgTable)
 unfolding nearestOf apart cgTable
 cg-back-test = tt
 
+-- tested over PG
 pg-back-test : T (every (returning pgTable) 0 pgTable)
 unfolding nearestOf apart pgTable
 pg-back-test = tt
 
+-- so the nearest of a CG entry is its own index
 pub cg-back : (i : ℕ) → i ≤ 31 → nearestOf cgTable (getD cgTable i (pos 0)) ≡ i
 cg-back i h = eqb→eq _ _ (at (pos 0) (returning cgTable) cgTable cg-back-test i (omega (arith, cg-length)))
 
+-- and that of a PG entry
 pub pg-back : (i : ℕ) → i ≤ 31 → nearestOf pgTable (getD pgTable i (pos 0)) ≡ i
 pg-back i h = eqb→eq _ _ (at (pos 0) (returning pgTable) pgTable pg-back-test i (omega (arith, pg-length)))
 
@@ -217,11 +238,14 @@ pg-back i h = eqb→eq _ _ (at (pos 0) (returning pgTable) pgTable pg-back-test 
 pub cg-nearest : (x : ℤ) → Nearest cgTable x (nearestOf cgTable x)
 cg-nearest x = nearest-is x cgTable (omega (arith, cg-length))
 
+-- the answer is nearest in PG
 pub pg-nearest : (x : ℤ) → Nearest pgTable x (nearestOf pgTable x)
 pg-nearest x = nearest-is x pgTable (omega (arith, pg-length))
 
+-- it is one of the 32 indices of CG
 pub cg-nearest-below : (x : ℤ) → nearestOf cgTable x < 32
 cg-nearest-below x = omega (arith, cg-nearest x .within, cg-length)
 
+-- and of PG
 pub pg-nearest-below : (x : ℤ) → nearestOf pgTable x < 32
 pg-nearest-below x = omega (arith, pg-nearest x .within, pg-length)

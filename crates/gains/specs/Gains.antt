@@ -13,9 +13,11 @@ use Rattle.gains.specs.Tables.{cgTable, pgTable}
 unfoldable pub gainOf : List ℤ → ℕ → Gain
 gainOf table i = unless (leb i 31) TooLarge (Value (getD table i (pos 0)))
 
+-- the gain of a CG index
 abbrev pub cgOf : ℕ → Gain
 cgOf i = gainOf cgTable i
 
+-- the gain of a PG index, in thousandths
 abbrev pub pgOf : ℕ → Gain
 pgOf i = gainOf pgTable i
 

@@ -20,7 +20,8 @@ nearestOf (e ∷ es) x = cond (every (λ k later. leb (apart x e) (apart x later
 abbrev pub apartAt : List ℤ → ℤ → ℕ → ℕ
 apartAt table x i = apart x (getD table i (pos 0))
 
--- the same in plain terms: the index is in the table, no entry is nearer than the one there, and each lower one is farther
+-- the same in plain terms: the index is in the table, no entry is nearer than the one there, and each lower one is
+-- farther
 pub record Nearest (table : List ℤ) (x : ℤ) (i : ℕ) : Type 0 where
   pub within : i < length table
   pub least : (k : ℕ) → k < length table → apartAt table x i ≤ apartAt table x k

@@ -1,4 +1,5 @@
--- A number whose bits are scattered over the places 1 to n: the sum of the places that belong to it is the number with those bits.
+-- A number whose bits are scattered over the places 1 to n: the sum of the places that belong to it is the number with
+-- those bits.
 -- Assumes nothing.
 use mathlib.Core.Path.{_≡_, _∙_, sym, refl, ap}
 use mathlib.Core.Bool.{Bool, true, false, cond}
@@ -11,7 +12,8 @@ use Rattle.laws.specs.Table.{both}
 use Rattle.laws.specs.Total.{total, fromBits}
 use Rattle.laws.proofs.Total.{total-cong, total-most, total-change}
 
--- places 1 to n, each belonging to the number `owner` says, as its bit `rank`; of number f bit i stands at `place i`, and only there
+-- places 1 to n, each belonging to the number `owner` says, as its bit `rank`; of number f bit i stands at `place i`,
+-- and only there
 pub record Scattered (n : ℕ) (owner rank : ℕ → ℕ) (f w : ℕ) (place : ℕ → ℕ) : Type 0 where
   pub first : (i : ℕ) → i < w → 1 ≤ place i
   pub last : (i : ℕ) → i < w → place i ≤ n
@@ -25,10 +27,12 @@ module _ {n : ℕ} {owner rank : ℕ → ℕ} {f w : ℕ} {place : ℕ → ℕ} 
   part : ℕ → ℕ → ℕ
   part v q = cond (both (eqb (owner q) f) (ltb (rank q) v)) (b q * 2 ^ rank q) 0
 
+  -- a place of the number counts once its bit is among the first v
   part-in : (v q : ℕ) → owner q ≡ f → rank q < v → part v q ≡ b q * 2 ^ rank q
   unfolding part
   part-in v q e h = rw (eq-eqb (owner q) f e, lt-ltb (rank q) v h)
 
+  -- a place of a later bit counts 0
   part-above : (v q : ℕ) → v ≤ rank q → part v q ≡ 0
   unfolding part
   part-above v q h = rw (le-ltb (rank q) v h) (go (eqb (owner q) f))
@@ -37,6 +41,7 @@ module _ {n : ℕ} {owner rank : ℕ → ℕ} {f w : ℕ} {place : ℕ → ℕ} 
       go true = refl
       go false = refl
 
+  -- a place of another number counts 0
   part-other : (v q : ℕ) → (owner q ≡ f → ⊥) → part v q ≡ 0
   unfolding part
   part-other v q e = rw (ne-eqb (owner q) f e)
@@ -59,6 +64,7 @@ module _ {n : ℕ} {owner rank : ℕ → ℕ} {f w : ℕ} {place : ℕ → ℕ} 
       mine (yes o) = under o (decLt (rank q) v)
       mine (no o) = part-other v q o ∙ sym (part-other (suc v) q o)
 
+  -- the sum of the places of the first v bits is the number of those bits
   upTo : (v : ℕ) → v ≤ w → total (part v) n ≡ fromBits (λ i. b (place i)) v
   unfolding fromBits
   upTo zero h =
@@ -66,7 +72,8 @@ module _ {n : ℕ} {owner rank : ℕ → ℕ} {f w : ℕ} {place : ℕ → ℕ} 
       omega (arith, z)
   upTo (suc v) h =
       let rest = upTo v (omega arith) in
-      let change = total-change (part v) (part (suc v)) (place v) n (s .first v h) (s .last v h) (λ q a l e. same v q h a l e) in
+      let change = total-change (part v) (part (suc v)) (place v) n (s .first v h) (s .last v h)
+      (λ q a l e. same v q h a l e) in
       let none = part-above v (place v) (let e = s .ranked v h in omega (arith, e)) in
       let gain : part (suc v) (place v) ≡ b (place v) * 2 ^ v
       = part-in (suc v) (place v) (s .owned v h) (let e = s .ranked v h in omega (arith, e))
@@ -76,7 +83,8 @@ module _ {n : ℕ} {owner rank : ℕ → ℕ} {f w : ℕ} {place : ℕ → ℕ} 
   -- all of its places
   pub collected : total (λ q. cond (eqb (owner q) f) (b q * 2 ^ rank q) 0) n ≡ fromBits (λ i. b (place i)) w
   collected =
-      total-cong (λ q. cond (eqb (owner q) f) (b q * 2 ^ rank q) 0) (part w) n (λ q a l. whole q a l (ℕ-discrete (owner q) f)) ∙ upTo w (omega arith)
+      total-cong (λ q. cond (eqb (owner q) f) (b q * 2 ^ rank q) 0) (part w) n
+      (λ q a l. whole q a l (ℕ-discrete (owner q) f)) ∙ upTo w (omega arith)
     where
       whole : (q : ℕ) → 1 ≤ q → q ≤ n → Dec (owner q ≡ f) → cond (eqb (owner q) f) (b q * 2 ^ rank q) 0 ≡ part w q
       whole q a l (yes o) = rw (eq-eqb (owner q) f o) (sym (part-in w q o (s .below q a l o)))

@@ -9,16 +9,19 @@ use lib.Dec.{T}
 use lib.ListN.{length, getD}
 use Rattle.laws.specs.Table.{both, every}
 
+-- two tests that pass pass together
 pub both-of : (a b : Bool) → T a → T b → T (both a b)
 both-of true b s t = t
 both-of false b s t = s
 
 module _ {A : Type 0} (d : A) (f : ℕ → A → Bool) where
+  -- a test that passes at each place from i on passes over the list
   from : (xs : List A) (i : ℕ) → ((k : ℕ) → k < length xs → T (f (i + k) (getD xs k d))) → T (every f i xs)
   from [] i p = tt
   from (x ∷ xs) i p =
       both-of (f i x) (every f (suc i) xs) (subst (λ (m : ℕ). T (f m x)) (add-zero i) (p 0 (zero-lt-suc (length xs))))
-      (from xs (suc i) (λ k h. subst (λ (m : ℕ). T (f m (getD xs k d))) (add-suc i k ∙ sym (suc-add i k)) (p (suc k) (suc-le-suc h))))
+      (from xs (suc i) (λ k h. subst (λ (m : ℕ). T (f m (getD xs k d))) (add-suc i k ∙ sym (suc-add i k))
+      (p (suc k) (suc-le-suc h))))
 
   -- a test that passes at each entry passes over the whole table
   pub every-of : (xs : List A) → ((k : ℕ) → k < length xs → T (f k (getD xs k d))) → T (every f 0 xs)

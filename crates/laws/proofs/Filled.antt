@@ -17,9 +17,11 @@ pub record Filled {A : Type 0} (d : A) (f : ℕ → A) (n i : ℕ) (l : List A) 
   pub here : (k : ℕ) → k < i → getD l k d ≡ f k
 
 module _ {A : Type 0} (d : A) (f : ℕ → A) (n : ℕ) where
+  -- before the first turn no place holds f
   pub filled-none : (l : List A) → length l ≡ n → Filled d f n 0 l
   filled-none l e = record { long = e; upto = omega arith; here = λ k h. absurd (omega arith) }
 
+  -- storing f i at place i fills one more
   pub filled-more : (i : ℕ) (l : List A) (v : A) → Filled d f n i l → i < n → v ≡ f i → Filled d f n (i + 1) (set l i v)
   filled-more i l v p h e = record { long = length-set l i v ∙ p .long; upto = omega arith; here = here′ }
     where
@@ -31,23 +33,30 @@ module _ {A : Type 0} (d : A) (f : ℕ → A) (n : ℕ) where
       here′ : (k : ℕ) → k < i + 1 → getD (set l i v) k d ≡ f k
       here′ k q = here″ k q (ℕ-discrete k i)
 
+  -- a list filled to its end is the whole list of f
   pub filled-all : (l : List A) → Filled d f n n l → l ≡ tabulate f n
   filled-all l p = sym (tabulate-is f d l n (p .long) (λ k h. sym (p .here k h)))
 
   -- the same where the loop was left
   pub filled-done : {i : ℕ} (l : List A) → n ≤ i → Filled d f n i l → l ≡ tabulate f n
-  filled-done {i} l h p = filled-all l (record { long = p .long; upto = omega arith; here = λ k q. p .here k (omega arith) })
+  filled-done {i} l h p =
+      filled-all l (record { long = p .long; upto = omega arith; here = λ k q. p .here k (omega arith) })
 
 -- the loop that copies a list: the first k places hold what it holds there
 module _ {A : Type 0} (d : A) (part : List A) where
+  -- the first k places are copied
   abbrev pub Copied : ℕ → List A → Type 0
   Copied k out = Filled d (λ (m : ℕ). getD part m d) (length part) k out
 
+  -- before the first turn nothing is
   pub copied-none : (out : List A) → length out ≡ length part → Copied 0 out
   copied-none out e = filled-none _ _ _ out e
 
-  pub copied-more : {k : ℕ} {out : List A} (v : A) → Copied k out → k < length part → v ≡ getD part k d → Copied (k + 1) (set out k v)
+  -- storing the part's entry at place k copies one more
+  pub copied-more : {k : ℕ} {out : List A} (v : A) → Copied k out → k < length part → v ≡ getD part k d
+      → Copied (k + 1) (set out k v)
   copied-more {k} {out} v p h e = filled-more _ _ _ k out v p h e
 
+  -- after the last turn the two lists are one
   pub copied-all : {k : ℕ} {out : List A} → Copied k out → length part ≤ k → out ≡ part
   copied-all {k} {out} p h = filled-done _ _ _ out h p ∙ own-entries d part (length part) refl

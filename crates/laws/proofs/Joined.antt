@@ -8,7 +8,8 @@ use lib.ListN.{length, getD}
 use lib.Seq.{getD-append-add}
 
 -- from the first list's length on stands the second
-pub getD-second : {A : Type 0} (s t : List A) (k : ℕ) (d : A) → length s ≤ k → getD (s ++ t) k d ≡ getD t (k - length s) d
+pub getD-second : {A : Type 0} (s t : List A) (k : ℕ) (d : A) → length s ≤ k
+    → getD (s ++ t) k d ≡ getD t (k - length s) d
 getD-second s t k d h =
     let e : length s + (k - length s) ≡ k = omega arith in
     subst (λ (m : ℕ). getD (s ++ t) m d ≡ getD t (k - length s) d) e (getD-append-add s t (k - length s) d)

@@ -10,7 +10,8 @@ use Rattle.laws.specs.Lowest.{lowestFrom, lowest}
 
 module _ (t : ℕ → Bool) where
   -- the test fails below j and holds at j
-  from-at : (k i d : ℕ) → d < k → ((m : ℕ) → i ≤ m → m < i + d → t m ≡ false) → t (i + d) ≡ true → lowestFrom t i k ≡ i + d
+  from-at : (k i d : ℕ) → d < k → ((m : ℕ) → i ≤ m → m < i + d → t m ≡ false) → t (i + d) ≡ true
+      → lowestFrom t i k ≡ i + d
   unfolding lowestFrom
   from-at zero i d h none here = absurd (omega arith)
   from-at (suc k) i zero h none here =
@@ -19,9 +20,11 @@ module _ (t : ℕ → Bool) where
   from-at (suc k) i (suc d) h none here =
       let e : t i ≡ false = none i (omega arith) (omega arith) in
       rw e
-      (from-at k (suc i) d (omega arith) (λ m a b. none m (omega arith) (omega arith)) (subst (λ (m : ℕ). t m ≡ true) (omega arith) here)
+      (from-at k (suc i) d (omega arith) (λ m a b. none m (omega arith) (omega arith))
+      (subst (λ (m : ℕ). t m ≡ true) (omega arith) here)
       ∙ omega arith)
 
+  -- the test fails at all of the k numbers from i on
   from-none : (k i : ℕ) → ((m : ℕ) → i ≤ m → m < i + k → t m ≡ false) → lowestFrom t i k ≡ 0
   unfolding lowestFrom
   from-none zero i none = refl
@@ -33,12 +36,14 @@ module _ (t : ℕ → Bool) where
   pub lowest-at : (n j : ℕ) → 1 ≤ j → j ≤ n → ((m : ℕ) → 1 ≤ m → m < j → t m ≡ false) → t j ≡ true → lowest t n ≡ j
   lowest-at n zero a b none here = absurd (omega arith)
   lowest-at n (suc d) a b none here =
-      from-at n 1 d (omega arith) (λ m p q. none m p (omega arith)) (subst (λ (m : ℕ). t m ≡ true) (omega arith) here) ∙ omega arith
+      from-at n 1 d (omega arith) (λ m p q. none m p (omega arith)) (subst (λ (m : ℕ). t m ≡ true) (omega arith) here)
+      ∙ omega arith
 
   -- it holds at none
   pub lowest-none : (n : ℕ) → ((m : ℕ) → 1 ≤ m → m ≤ n → t m ≡ false) → lowest t n ≡ 0
   lowest-none n none = from-none n 1 (λ m a b. none m a (omega arith))
 
+  -- what the test at i makes of the answer
   from-step : (k i : ℕ) (b : Bool) → t i ≡ b → lowestFrom t i (suc k) ≡ cond b i (lowestFrom t (suc i) k)
   unfolding lowestFrom
   from-step k i b q = ap (λ (x : Bool). cond x i (lowestFrom t (suc i) k)) q
@@ -47,9 +52,11 @@ module _ (t : ℕ → Bool) where
   abbrev Nowhere : ℕ → ℕ → Type 0
   Nowhere k i = lowestFrom t i k ≡ 0 → (m : ℕ) → i ≤ m → m < i + k → t m ≡ false
 
+  -- j is the first of them at which it holds
   abbrev First : ℕ → ℕ → ℕ → Type 0
   First k i j = (i ≤ j) × (j < i + k) × (t j ≡ true) × ((m : ℕ) → i ≤ m → m < j → t m ≡ false)
 
+  -- an answer of 0 says that it fails at all of them
   from-zero : (k i : ℕ) → 1 ≤ i → Nowhere k i
   from-zero zero i p e m a b = absurd (omega arith)
   from-zero (suc k) i p e m a b = here (from-zero k (suc i) (omega arith)) (t i) refl (ℕ-discrete m i)
@@ -59,8 +66,10 @@ module _ (t : ℕ → Bool) where
       here rest false q (yes w) = ap t w ∙ q
       here rest false q (no w) = rest (sym (from-step k i false q) ∙ e) m (omega arith) (omega arith)
 
+  -- any other answer is the first at which it holds
   from-found : (k i j : ℕ) → lowestFrom t i k ≡ j → 1 ≤ j → First k i j
-  from-found zero i j e q = absurd (let z : 0 ≡ j = sym (from-none zero i (λ m a b. absurd (omega arith))) ∙ e in omega arith)
+  from-found zero i j e q =
+      absurd (let z : 0 ≡ j = sym (from-none zero i (λ m a b. absurd (omega arith))) ∙ e in omega arith)
   from-found (suc k) i j e q = here (λ w. from-found k (suc i) j w q) (t i) refl
     where
       below : t i ≡ false → First k (suc i) j → (m : ℕ) → i ≤ m → m < j → Dec (m ≡ i) → t m ≡ false
@@ -81,7 +90,8 @@ module _ (t : ℕ → Bool) where
   lowest-zero n e m a b = from-zero n 1 (omega arith) e m a (omega arith)
 
   -- any other answer is a number of 1 to n at which it holds, and it holds at none below
-  pub lowest-found : (n j : ℕ) → lowest t n ≡ j → 1 ≤ j → (j ≤ n) × (t j ≡ true) × ((m : ℕ) → 1 ≤ m → m < j → t m ≡ false)
+  pub lowest-found : (n j : ℕ) → lowest t n ≡ j → 1 ≤ j
+      → (j ≤ n) × (t j ≡ true) × ((m : ℕ) → 1 ≤ m → m < j → t m ≡ false)
   lowest-found n j e q =
       let r = from-found n 1 j e q in
       (omega (arith, r .1), r .2, r .3)
@@ -90,9 +100,11 @@ module _ (t : ℕ → Bool) where
   pub record NoneUpTo (i : ℕ) : Type 0 where
     pub none : (m : ℕ) → 1 ≤ m → m ≤ i → t m ≡ false
 
+  -- at no number yet
   pub none-yet : NoneUpTo 0
   none-yet = record { none = λ m a b. absurd (omega arith) }
 
+  -- it fails at one number more
   pub none-more : {i : ℕ} → NoneUpTo i → t (i + 1) ≡ false → NoneUpTo (i + 1)
   none-more {i} p e = record { none = λ m a b. at m a b (ℕ-discrete m (i + 1)) }
     where
@@ -100,14 +112,17 @@ module _ (t : ℕ → Bool) where
       at m a b (yes w) = ap t w ∙ e
       at m a b (no w) = p .none m a (omega arith)
 
+  -- it holds at the next one: that is the lowest
   pub none-found : (n : ℕ) {i : ℕ} → NoneUpTo i → i < n → t (i + 1) ≡ true → i + 1 ≡ lowest t n
   none-found n {i} p h e = sym (lowest-at n (i + 1) (omega arith) (omega arith) (λ m a b. p .none m a (omega arith)) e)
 
+  -- it has failed at all of them
   pub none-at-all : (n : ℕ) {i : ℕ} → NoneUpTo i → n ≤ i → 0 ≡ lowest t n
   none-at-all n {i} p h = sym (lowest-none n (λ m a b. p .none m a (omega arith)))
 
 -- two tests that agree at 1 to n have the same lowest number
 module _ (t u : ℕ → Bool) where
+  -- so from i on
   from-same : (k i : ℕ) → ((m : ℕ) → i ≤ m → m < i + k → t m ≡ u m) → lowestFrom t i k ≡ lowestFrom u i k
   unfolding lowestFrom
   from-same zero i same = refl
@@ -115,5 +130,6 @@ module _ (t u : ℕ → Bool) where
       let here : t i ≡ u i = same i (omega arith) (omega arith) in
       rw (here, from-same k (suc i) (λ m a b. same m (omega arith) (omega arith)))
 
+  -- and of 1 to n
   pub lowest-same : (n : ℕ) → ((m : ℕ) → 1 ≤ m → m ≤ n → t m ≡ u m) → lowest t n ≡ lowest u n
   lowest-same n same = from-same n 1 (λ m a b. same m a (omega arith))

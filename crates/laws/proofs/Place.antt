@@ -10,6 +10,7 @@ use lib.ListN.{length, getD}
 use borrow.Author.Tests.{eqb-true, eq-eqb}
 use Rattle.laws.specs.Place.{placeIn}
 
+-- what the test at the first entry makes of the place
 place-step : (x y : ℕ) (ys : List ℕ) (b : Bool) → eqb x y ≡ b → placeIn x (y ∷ ys) ≡ cond b 0 (suc (placeIn x ys))
 unfolding placeIn
 place-step x y ys b e = ap (λ (t : Bool). cond t 0 (suc (placeIn x ys))) e
@@ -19,7 +20,8 @@ pub place-entry : (x : ℕ) (xs : List ℕ) → placeIn x xs < length xs → get
 place-entry x [] h = absurd (omega arith)
 place-entry x (y ∷ ys) h = here (place-entry x ys) (eqb x y) refl
   where
-    here : (placeIn x ys < length ys → getD ys (placeIn x ys) 0 ≡ x) → (b : Bool) → eqb x y ≡ b → getD (y ∷ ys) (placeIn x (y ∷ ys)) 0 ≡ x
+    here : (placeIn x ys < length ys → getD ys (placeIn x ys) 0 ≡ x) → (b : Bool) → eqb x y ≡ b
+        → getD (y ∷ ys) (placeIn x (y ∷ ys)) 0 ≡ x
     here rest true e = rw (place-step x y ys true e) (sym (eqb-true x y e))
     here rest false e = rw (place-step x y ys false e) (rest (omega (arith, place-step x y ys false e)))
 
@@ -33,6 +35,7 @@ place-first (y ∷ ys) (suc k) h = here (place-first ys k (omega arith)) (eqb (g
     here rest true e = rw (place-step (getD ys k 0) y ys true e) (omega arith)
     here rest false e = rw (place-step (getD ys k 0) y ys false e) (omega arith)
 
+-- a place is at most the list's length
 pub place-within : (x : ℕ) (xs : List ℕ) → placeIn x xs ≤ length xs
 unfolding placeIn
 place-within x [] = omega arith

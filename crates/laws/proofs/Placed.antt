@@ -32,7 +32,8 @@ module _ {A : Type 0} {d : A} {f : ℕ → A} {n : ℕ} where
       here′ k w (no s) = getD-set-other l i k v d s ∙ q .here k (⊎-elim (λ a. a) (λ a. absurd (s a)) w)
 
   -- the places told in other words
-  pub placed-as : {p : ℕ → Type 0} {l : List A} (q : ℕ → Type 0) → Placed d f n p l → ((k : ℕ) → q k → p k) → Placed d f n q l
+  pub placed-as : {p : ℕ → Type 0} {l : List A} (q : ℕ → Type 0) → Placed d f n p l → ((k : ℕ) → q k → p k)
+      → Placed d f n q l
   placed-as q s told = record { long = s .long; here = λ k h. s .here k (told k h) }
 
   -- every place holds f

@@ -10,14 +10,17 @@ use lib.Seq.{ext-getD}
 use Rattle.laws.specs.Tabulate.{tabulateFrom, tabulate}
 
 module _ {A : Type 0} (f : ℕ → A) where
+  -- n places from i on are n
   length-from : (i n : ℕ) → length (tabulateFrom i f n) ≡ n
   unfolding tabulateFrom
   length-from i zero = refl
   length-from i (suc n) = ap suc (length-from (suc i) n)
 
+  -- so many places has the list
   pub length-tabulate : (n : ℕ) → length (tabulate f n) ≡ n
   length-tabulate n = length-from 0 n
 
+  -- place k from i on holds f (i + k)
   getD-from : (d : A) (n i k : ℕ) → k < n → getD (tabulateFrom i f n) k d ≡ f (i + k)
   unfolding tabulateFrom
   getD-from d zero i k h = absurd (omega arith)
@@ -29,7 +32,8 @@ module _ {A : Type 0} (f : ℕ → A) where
   getD-tabulate d n k h = getD-from d n 0 k h ∙ ap f (zero-add k)
 
   -- a list of that length that holds the same at each place is it
-  pub tabulate-is : (d : A) (l : List A) (n : ℕ) → length l ≡ n → ((k : ℕ) → k < n → f k ≡ getD l k d) → tabulate f n ≡ l
+  pub tabulate-is : (d : A) (l : List A) (n : ℕ) → length l ≡ n → ((k : ℕ) → k < n → f k ≡ getD l k d)
+      → tabulate f n ≡ l
   tabulate-is d l n e same =
       ext-getD d (tabulate f n) l (length-tabulate n ∙ sym e)
       (λ k h. let b : k < n = subst (λ (m : ℕ). k < m) (length-tabulate n) h in
@@ -39,10 +43,13 @@ module _ {A : Type 0} (f : ℕ → A) where
 pub own-entries : {A : Type 0} (d : A) (l : List A) (n : ℕ) → length l ≡ n → tabulate (λ k. getD l k d) n ≡ l
 own-entries d l n e = tabulate-is (λ k. getD l k d) d l n e (λ k h. refl)
 
-from-cong : {A : Type 0} (f g : ℕ → A) (n i : ℕ) → ((k : ℕ) → i ≤ k → k < i + n → f k ≡ g k) → tabulateFrom i f n ≡ tabulateFrom i g n
+-- the same from i on
+from-cong : {A : Type 0} (f g : ℕ → A) (n i : ℕ) → ((k : ℕ) → i ≤ k → k < i + n → f k ≡ g k)
+    → tabulateFrom i f n ≡ tabulateFrom i g n
 unfolding tabulateFrom
 from-cong f g zero i h = refl
-from-cong f g (suc n) i h = ap₂ _∷_ (h i (omega arith) (omega arith)) (from-cong f g n (suc i) (λ k a b. h k (omega arith) (omega arith)))
+from-cong f g (suc n) i h =
+    ap₂ _∷_ (h i (omega arith) (omega arith)) (from-cong f g n (suc i) (λ k a b. h k (omega arith) (omega arith)))
 
 -- two lists that hold the same at each place are one
 pub tabulate-cong : {A : Type 0} (f g : ℕ → A) (n : ℕ) → ((k : ℕ) → k < n → f k ≡ g k) → tabulate f n ≡ tabulate g n

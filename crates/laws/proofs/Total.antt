@@ -10,10 +10,12 @@ use mathlib.Core.Bool.{cond}
 use lib.Dec.{eqb}
 use Rattle.laws.specs.Total.{total}
 
+-- one term more
 pub total-more : (f : ℕ → ℕ) (n : ℕ) → total f (n + 1) ≡ total f n + f (n + 1)
 unfolding total
 total-more f n = rw add-one
 
+-- terms that are equal have equal sums
 pub total-cong : (f g : ℕ → ℕ) (n : ℕ) → ((k : ℕ) → 1 ≤ k → k ≤ n → f k ≡ g k) → total f n ≡ total g n
 unfolding total
 total-cong f g zero h = refl
@@ -36,9 +38,11 @@ pub total-change : (f g : ℕ → ℕ) (p n : ℕ) → 1 ≤ p → p ≤ n → (
     → total g n + f p ≡ total f n + g p
 unfolding total
 total-change f g p zero a b h = absurd (omega arith)
-total-change f g p (suc n) a b h = go (ℕ-discrete p (suc n)) (λ c. total-change f g p n a c (λ k q r s. h k q (omega arith) s))
+total-change f g p (suc n) a b h =
+    go (ℕ-discrete p (suc n)) (λ c. total-change f g p n a c (λ k q r s. h k q (omega arith) s))
   where
-    go : Dec (p ≡ suc n) → (p ≤ n → total g n + f p ≡ total f n + g p) → total g n + g (suc n) + f p ≡ total f n + f (suc n) + g p
+    go : Dec (p ≡ suc n) → (p ≤ n → total g n + f p ≡ total f n + g p)
+        → total g n + g (suc n) + f p ≡ total f n + f (suc n) + g p
     go (yes e) rest =
         let same = total-cong f g n (λ k q r. h k q (omega arith) (λ w. omega arith)) in
         let s : f p ≡ f (suc n) = ap f e in
@@ -69,7 +73,8 @@ total-none f (suc n) h =
     omega (arith, a, b)
 
 -- nothing but 0 away from one place
-pub total-one : (f : ℕ → ℕ) (p n : ℕ) → 1 ≤ p → p ≤ n → ((k : ℕ) → 1 ≤ k → k ≤ n → (k ≡ p → ⊥) → f k ≡ 0) → total f n ≡ f p
+pub total-one : (f : ℕ → ℕ) (p n : ℕ) → 1 ≤ p → p ≤ n → ((k : ℕ) → 1 ≤ k → k ≤ n → (k ≡ p → ⊥) → f k ≡ 0)
+    → total f n ≡ f p
 total-one f p n a b h =
     let c = total-change (λ k. 0) f p n a b (λ k q r s. sym (h k q r s)) in
     let z = total-none (λ k. 0) n (λ k q r. refl) in

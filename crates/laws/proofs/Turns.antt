@@ -1,4 +1,5 @@
--- Where each turn goes on only at a smaller measure, turns enough never run out: the function is what it does in one turn.
+-- Where each turn goes on only at a smaller measure, turns enough never run out: the function is what it does in one
+-- turn.
 -- Assumes nothing.
 use mathlib.Core.Path.{_≡_}
 use Prim.Native.Nat.{ℕ, zero, suc, _<_}

@@ -7,5 +7,6 @@ use lib.ListN.{getD}
 unfoldable pub pairAt : List ℕ → ℕ → ℕ
 pairAt s at = getD s at 0 + 256 * getD s (at + 1) 0
 
+-- four bytes
 unfoldable pub wordAt : List ℕ → ℕ → ℕ
 wordAt s at = getD s at 0 + 256 * (getD s (at + 1) 0 + 256 * (getD s (at + 2) 0 + 256 * getD s (at + 3) 0))

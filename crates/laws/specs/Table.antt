@@ -3,6 +3,7 @@ use mathlib.Core.Bool.{Bool, true, false}
 use mathlib.Core.List.{List, [], _∷_}
 use Prim.Native.Nat.{ℕ, zero, suc}
 
+-- two tests pass
 abbrev pub both : Bool → Bool → Bool
 both true b = b
 both false b = false

@@ -1,1 +1,1 @@
-// Facts that belong to no subject. There is no code here: the definitions are in specs/, the laws about them in proofs/.
+// Facts that belong to no subject. There is no code here: specs/ has the definitions, proofs/ the laws about them.

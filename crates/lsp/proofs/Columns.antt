@@ -26,9 +26,11 @@ use Rattle.lsp.specs.declared.Verdict.the-variants.{Within, TooLarge}
 abbrev entryPrinted : ℕ → ℕ → ℕ → Bool
 entryPrinted k i x = eqb x (getD (getD hzTable i []) k 0)
 
+-- row k is as printed
 abbrev rowPrinted : ℕ → List ℕ → Bool
 rowPrinted k row = both (eqb (length row) 10) (every (entryPrinted k) 0 row)
 
+-- all sixteen rows are
 abbrev pub asPrinted : List (List ℕ) → Bool
 asPrinted rows = both (eqb (length rows) 16) (every rowPrinted 0 rows)
 
@@ -42,12 +44,14 @@ entry rows printed i k h g =
     = at [] rowPrinted rows (both-right (eqb (length rows) 16) (every rowPrinted 0 rows) printed) k (omega arith) in
     let ten : length row ≡ 10 = eqb→eq _ _ (both-left (eqb (length row) 10) (every (entryPrinted k) 0 row) t) in
     rw (add-sub-cancel i 1)
-    (eqb→eq _ _ (at 0 (entryPrinted k) row (both-right (eqb (length row) 10) (every (entryPrinted k) 0 row) t) i (omega arith)))
+    (eqb→eq _ _
+    (at 0 (entryPrinted k) row (both-right (eqb (length row) 10) (every (entryPrinted k) 0 row) t) i (omega arith)))
 
 -- no index has more than 4 bits
 abbrev atMostFour : ℕ → ℕ → Bool
 atMostFour k w = leb w 4
 
+-- so of each of the ten
 bits-most : (i : ℕ) → i < 10 → getD bits i 0 ≤ 4
 bits-most i h = leb→le (getD bits i 0) 4 (at 0 atMostFour bits tt i h)
 
@@ -57,17 +61,23 @@ fits-row i x h e =
     let p : 2 ^ getD bits i 0 ≤ 2 ^ 4 = pow-mono (bits-most i h) in
     omega (arith, shr-zero-below x (getD bits i 0) e)
 
--- the loop of `in_hertz`: the table and the bits are as printed, the first i indices fit, and the first i places hold Hz
+-- the loop of `in_hertz`: the table and the bits are as printed, the first i indices fit, and the first i places hold
+-- Hz
 pub record Looked (rows : List (List ℕ)) (widths indices : List ℕ) (i : ℕ) (hz : List ℕ) : Type 0 where
   pub printed : T (asPrinted rows)
   pub held : widths ≡ bits
   pub fit : NoneUpTo (overIn indices) i
   pub filled : Filled 0 (hzAt indices) 10 i hz
 
-pub none-looked : (rows : List (List ℕ)) (indices hz : List ℕ) → T (asPrinted rows) → length hz ≡ 10 → Looked rows bits indices 0 hz
-none-looked rows indices hz t e = record { printed = t; held = refl; fit = none-yet _; filled = filled-none 0 (hzAt indices) 10 hz e }
+-- before the first turn no index is looked at
+pub none-looked : (rows : List (List ℕ)) (indices hz : List ℕ) → T (asPrinted rows) → length hz ≡ 10
+    → Looked rows bits indices 0 hz
+none-looked rows indices hz t e =
+    record { printed = t; held = refl; fit = none-yet _; filled = filled-none 0 (hzAt indices) 10 hz e }
 
-module _ {rows : List (List ℕ)} {widths indices : List ℕ} {i : ℕ} {hz : List ℕ} (s : Looked rows widths indices i hz) where
+module _ {rows : List (List ℕ)} {widths indices : List ℕ} {i : ℕ} {hz : List ℕ}
+    (s : Looked rows widths indices i hz) where
+  -- place i of both lists is that of LSP i + 1
   over-here : overIn indices (i + 1) ≡ leb (2 ^ getD bits i 0) (getD indices i 0)
   over-here = rw (add-sub-cancel i 1) refl
 
@@ -75,6 +85,7 @@ module _ {rows : List (List ℕ)} {widths indices : List ℕ} {i : ℕ} {hz : Li
   pub shift-small : i < 10 → getD widths i 0 < 16
   shift-small h = rw (s .held) (omega (arith, bits-most i h))
 
+  -- an index of which nothing is left after the shift is a row of the table
   pub row-small : i < 10 → getD indices i 0 / 2 ^ getD widths i 0 ≡ 0 → getD indices i 0 < 16
   row-small h e = fits-row i (getD indices i 0) h (rw (s .held) at e)
 

@@ -31,6 +31,7 @@ pub mark-in-order : (hz : List ℕ) → markOf hz ≡ 0 → InOrder hz
 unfolding markOf
 mark-in-order hz e j a b = ltb-false _ _ (lowest-zero (falls hz) 9 e j a b)
 
+-- parameters in order have the mark 0
 pub in-order-mark : (hz : List ℕ) → InOrder hz → markOf hz ≡ 0
 unfolding markOf
 in-order-mark hz o = lowest-none (falls hz) 9 (λ j a b. le-ltb _ _ (o j a b))
@@ -43,11 +44,13 @@ mark-falls hz j e q =
     let r = lowest-found (falls hz) 9 j e q in
     (r .0, ltb-true _ _ (r .1), λ m a b. ltb-false _ _ (r .2 m a b))
 
+-- the lowest j at which the parameters fall is the mark
 pub falls-mark : (hz : List ℕ) (j : ℕ) → 1 ≤ j → j ≤ 9 → lsp hz (j + 1) < lsp hz j
     → ((m : ℕ) → 1 ≤ m → m < j → lsp hz m ≤ lsp hz (m + 1)) → markOf hz ≡ j
 unfolding markOf
 falls-mark hz j a b f none = lowest-at (falls hz) 9 j a b (λ m p q. le-ltb _ _ (none m p q)) (lt-ltb _ _ f)
 
+-- no mark is over 9
 pub mark-most : (hz : List ℕ) → markOf hz ≤ 9
 mark-most hz = go (decLt 0 (markOf hz))
   where
@@ -64,6 +67,7 @@ average-least n a b p q =
     let r : min a b ≤ b = min-le-right a b in
     of-four (λ m. 8 * min a b ≤ averageOf m a b) n p q (omega arith) (omega arith) (omega arith) (omega arith)
 
+-- no average is above eight times the larger value
 pub average-most : (n a b : ℕ) → 1 ≤ n → n ≤ 4 → averageOf n a b ≤ 8 * max a b
 average-most n a b p q =
     let l : a ≤ max a b = le-max-left a b in
@@ -72,7 +76,8 @@ average-most n a b p q =
 
 -- of a value with itself it is eight times that
 pub average-same : (n a : ℕ) → 1 ≤ n → n ≤ 4 → averageOf n a a ≡ 8 * a
-average-same n a p q = of-four (λ m. averageOf m a a ≡ 8 * a) n p q (omega arith) (omega arith) (omega arith) (omega arith)
+average-same n a p q =
+    of-four (λ m. averageOf m a a ≡ 8 * a) n p q (omega arith) (omega arith) (omega arith) (omega arith)
 
 -- it is no less where both values are no less
 pub average-rises : (n a b c d : ℕ) → 1 ≤ n → n ≤ 4 → a ≤ c → b ≤ d → averageOf n a b ≤ averageOf n c d
@@ -80,6 +85,7 @@ average-rises n a b c d p q h g =
     of-four (λ m. averageOf m a b ≤ averageOf m c d) n p q (omega arith) (omega arith) (omega arith) (omega arith)
 
 module _ (previous present : List ℕ) where
+  -- there are forty averages
   pub averages-long : length (averagesOf previous present) ≡ 40
   unfolding averagesOf
   averages-long = length-tabulate (eighths previous present) 40
@@ -99,7 +105,8 @@ module _ (previous present : List ℕ) where
       → lsp (subframe n (averagesOf previous present)) j ≡ averageAt previous present n j
   subframe-at n j a b c d =
       let l : List ℕ = averagesOf previous present in
-      getD-take 10 (drop (10 * (n - 1)) l) (j - 1) 0 (omega arith) ∙ getD-drop (10 * (n - 1)) l (j - 1) 0 ∙ averages-at n j a b c d
+      getD-take 10 (drop (10 * (n - 1)) l) (j - 1) 0 (omega arith) ∙ getD-drop (10 * (n - 1)) l (j - 1) 0
+      ∙ averages-at n j a b c d
 
   -- where both frames are in order, the averages are in each subframe
   pub averages-in-order : (n : ℕ) → 1 ≤ n → n ≤ 4 → markOf previous ≡ 0 → markOf present ≡ 0
@@ -111,7 +118,8 @@ module _ (previous present : List ℕ) where
       (average-rises n _ _ _ _ a b (mark-in-order previous p j c d) (mark-in-order present q j c d)))
 
 -- where the previous values are the present ones, each average is eight times the value
-pub averages-same : (hz : List ℕ) (n j : ℕ) → 1 ≤ n → n ≤ 4 → 1 ≤ j → j ≤ 10 → getD (averagesOf hz hz) (10 * (n - 1) + (j - 1)) 0 ≡ 8 * lsp hz j
+pub averages-same : (hz : List ℕ) (n j : ℕ) → 1 ≤ n → n ≤ 4 → 1 ≤ j → j ≤ 10
+    → getD (averagesOf hz hz) (10 * (n - 1) + (j - 1)) 0 ≡ 8 * lsp hz j
 averages-same hz n j a b c d = averages-at hz hz n j a b c d ∙ average-same n (lsp hz j) a b
 
 -- ---- the table
@@ -124,6 +132,7 @@ within k x = both (leb 100 x) (leb x 3830)
 abbrev below-next : List ℕ → ℕ → ℕ → Bool
 below-next c k x = cond (ltb (k + 1) (length c)) (ltb x (getD c (k + 1) 0)) true
 
+-- what that test says
 next-above : (c : List ℕ) (k : ℕ) → T (below-next c k (getD c k 0)) → k + 1 < length c → getD c k 0 < getD c (k + 1) 0
 next-above c k t h =
     let e : ltb (k + 1) (length c) ≡ true = lt-ltb (k + 1) (length c) h in
@@ -163,6 +172,7 @@ module _ (indices : List ℕ) where
   unfolding tooLarge
   none-too-large e j a b = leb-false _ _ (lowest-zero (overIn indices) 10 e j a b)
 
+  -- where every index fits the answer is 0
   pub all-fit : Fit → tooLarge indices ≡ 0
   unfolding tooLarge
   all-fit f = lowest-none (overIn indices) 10 (λ j a b. lt-leb _ _ (f j a b))
@@ -175,6 +185,7 @@ module _ (indices : List ℕ) where
       let f = lowest-found (overIn indices) 10 j e a in
       (f .0, leb-true _ _ (f .1), λ m b c. leb-false _ _ (f .2 m b c))
 
+  -- the lowest LSP whose index does not fit is the answer
   pub too-large-at : (j : ℕ) → 1 ≤ j → j ≤ 10 → 2 ^ lsp bits j ≤ lsp indices j
       → ((m : ℕ) → 1 ≤ m → m < j → lsp indices m < 2 ^ lsp bits m) → tooLarge indices ≡ j
   unfolding tooLarge
@@ -182,7 +193,8 @@ module _ (indices : List ℕ) where
       lowest-at (overIn indices) 10 j a b (λ m p q. lt-leb _ _ (lower m p q)) (le-leb _ _ here)
 
   -- where every index fits, the ten are in Hz
-  pub hertz-given : tooLarge indices ≡ 0 → hertzOf indices ≡ record { verdict = Within; hz = tabulate (hzAt indices) 10 }
+  pub hertz-given : tooLarge indices ≡ 0
+      → hertzOf indices ≡ record { verdict = Within; hz = tabulate (hzAt indices) 10 }
   unfolding hertzOf
   hertz-given e = rw (eq-eqb (tooLarge indices) 0 e)
 

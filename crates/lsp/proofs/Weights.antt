@@ -17,7 +17,8 @@ module _ (previous present : List ℕ) where
   eighths k = averageAt previous present (k / 10 + 1) (k % 10 + 1)
 
   -- the place 10 m + i is that of LSP i+1 in subframe m+1
-  pub eighths-at : (m i k : ℕ) → i < 10 → k ≡ 10 * m + i → eighths k ≡ averageOf (m + 1) (getD previous i 0) (getD present i 0)
+  pub eighths-at : (m i k : ℕ) → i < 10 → k ≡ 10 * m + i
+      → eighths k ≡ averageOf (m + 1) (getD previous i 0) (getD present i 0)
   eighths-at m i k h e =
       let q : k / 10 ≡ m = omega arith in
       let r : k % 10 ≡ i = omega arith in
@@ -31,6 +32,7 @@ module _ (previous present : List ℕ) where
     pub upto : i ≤ 10
     pub placed : Placed 0 eighths 40 (Done i) l
 
+  -- before the first turn no parameter is done
   pub none-averaged : (l : List ℕ) → length l ≡ 40 → Averaged 0 l
   none-averaged l e = record { upto = omega arith; placed = placed-none (Done 0) l e (λ k h. omega arith) }
 
@@ -47,7 +49,8 @@ module _ (previous present : List ℕ) where
   pub one-averaged : {i : ℕ} {l : List ℕ} → Averaged i l → i < 10
       → let a = getD previous i 0 in
       let b = getD present i 0 in
-      Averaged (i + 1) (set (set (set (set l i (7 * a + b)) (10 + i) (5 * a + 3 * b)) (20 + i) (3 * a + 5 * b)) (30 + i) (a + 7 * b))
+      Averaged (i + 1) (set (set (set (set l i (7 * a + b)) (10 + i) (5 * a + 3 * b)) (20 + i) (3 * a + 5 * b)) (30 + i)
+      (a + 7 * b))
   one-averaged {i} {l} s h =
       let a : ℕ = getD previous i 0 in
       let b : ℕ = getD present i 0 in
@@ -64,9 +67,11 @@ module _ (previous present : List ℕ) where
             (omega arith) (sym (eighths-at 1 i (10 + i) h refl)))
             (omega arith) (sym (eighths-at 2 i (20 + i) h refl)))
             (omega arith) (last ∙ sym (eighths-at 3 i (30 + i) h refl)))
-            (λ k q. four-more i k q (ℕ-discrete k i) (ℕ-discrete k (10 + i)) (ℕ-discrete k (20 + i)) (ℕ-discrete k (30 + i)));
+            (λ k q. four-more i k q (ℕ-discrete k i) (ℕ-discrete k (10 + i)) (ℕ-discrete k (20 + i))
+            (ℕ-discrete k (30 + i)));
       }
 
+  -- after ten the forty averages stand
   pub all-averaged : {i : ℕ} {l : List ℕ} → Averaged i l → 10 ≤ i → l ≡ averagesOf previous present
   unfolding averagesOf
   all-averaged {i} s h = placed-all (s .placed) (λ k g. (g, omega (arith, s .upto)))

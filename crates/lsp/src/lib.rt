@@ -1,4 +1,4 @@
-// The ten line spectral parameters of 3.7: an index in Hz, the order mark of ten parameters, and the averages of two frames.
+// The ten line spectral parameters of 3.7: an index in Hz, the order mark of ten, and the averages of two frames.
 // LSP j stands at place j - 1 of a list of ten; all values are 16 bits, the averages are whole eighths of a Hz.
 ghost use mathlib.Core.Path.{_≡_};
 ghost use Rattle.lsp.specs.Table.{hertzOf};

@@ -10,10 +10,16 @@ use Rattle.record.specs.declared.Record.{Record}
 use Rattle.gains.specs.Gains.{gainOf}
 use Rattle.gains.specs.Gains as gain
 use Rattle.gains.proofs.Laws.{gain-value, gain-too-large}
-use Rattle.delays.specs.Codes.{codedOf}
+use Rattle.delays.specs.Codes.{meantBy, codedOf}
 use Rattle.delays.specs.Codes as delay
+use Rattle.delays.specs.declared.Meant.{Meant}
+use Rattle.delays.specs.declared.Meant.the-variants as Meant
 use Rattle.delays.specs.declared.Coded.{Coded}
 use Rattle.delays.specs.declared.Coded.the-variants.{Codes, NotListed, OutsideWindow}
+use Rattle.lsp.specs.Table.{hertzOf}
+use Rattle.lsp.specs.Table as hertz
+use Rattle.lsp.specs.declared.Verdict as lsp-verdict
+use Rattle.lsp.specs.declared.Verdict.the-variants as Lsp
 use Rattle.codebook.specs.Code as code
 use Rattle.codebook.specs.declared.Written as code-written
 use Rattle.codebook.specs.declared.Written.the-variants as Code
@@ -24,7 +30,7 @@ use Rattle.frame.specs.declared.Written.the-variants as Written
 use Rattle.values.specs.Values.{valuesOf}
 use Rattle.values.specs.Outcome as hearing
 use Rattle.values.specs.declared.Outcome.{Outcome}
-use Rattle.values.specs.declared.Outcome.the-variants.{Heard, TooLarge, Expansion}
+use Rattle.values.specs.declared.Outcome.the-variants.{Heard, TooLarge, Expansion, Nothing}
 use Rattle.values.specs.declared.State.{State}
 use Rattle.blocks.specs.Walk.{walkedOf}
 use Rattle.blocks.specs.Frames.{framesOf}
@@ -36,10 +42,19 @@ use Rattle.blocks.specs.declared.Walked.the-variants as Walked
 use Rattle.recording.specs.Judged.{judgedOf, judgedBy, judgedRefusal, judgedTells}
 use Rattle.recording.specs.declared.Judged.{Judged}
 use Rattle.recording.specs.declared.Judged.the-variants as Judged
-use Rattle.promises.specs.Refused.{WriterGives, WriterRefuses, HearingGives, HearingRefuses, CodingGives, DelaysRefuse, CodeGives, CodeRefuses}
+use Rattle.promises.specs.Refused.{WriterGives, WriterRefuses, HearingGives, HearingRefuses, HertzGives, HertzRefuses}
+use Rattle.promises.specs.Refused.{MeaningGives, MeaningRefuses, CodingGives, DelaysRefuse, CodeGives, CodeRefuses}
 use Rattle.promises.specs.Rule.{Given}
-use Rattle.promises.specs.Numbers.{WriterTable, write-length, write-index, write-fall, write-expansion, write-frame, WriterNumbers, HearingTable, hear-index, hear-expansion, hear-values, HearingNumbers, DelayTable, delay-unlisted, delay-outside, delay-codes, DelayNumbers, CodeTable, code-length, code-index, code-elements, CodeNumbers, GainTable, gain-index, gain-entry, GainNumbers, RecordingTable, too-long, header-cut, past-end, wrong-size, unknown-kind, out-of-turn, end-missing, wrong-count, extra, sound, RecordingNumbers}
-use Rattle.promises.proofs.Refused.{writer-refuses, hearing-refuses, delays-refuse, code-refuses}
+use Rattle.promises.specs.Numbers.{WriterTable, write-length, write-index, write-fall, write-expansion, write-frame, WriterNumbers}
+use Rattle.promises.specs.Numbers.{HearingTable, hear-index, hear-expansion, hear-values, HearingNumbers}
+use Rattle.promises.specs.Numbers.{HertzTable, hertz-index, hertz-values, HertzNumbers}
+use Rattle.promises.specs.Numbers.{MeaningTable, meaning-index, meaning-delays, MeaningNumbers}
+use Rattle.promises.specs.Numbers.{DelayTable, delay-unlisted, delay-outside, delay-codes, DelayNumbers}
+use Rattle.promises.specs.Numbers.{CodeTable, code-length, code-index, code-elements, CodeNumbers}
+use Rattle.promises.specs.Numbers.{GainTable, gain-index, gain-entry, GainNumbers}
+use Rattle.promises.specs.Numbers.{RecordingTable, too-long, header-cut, past-end, wrong-size, unknown-kind, out-of-turn}
+use Rattle.promises.specs.Numbers.{end-missing, wrong-count, extra, sound, RecordingNumbers}
+use Rattle.promises.proofs.Refused.{writer-refuses, hearing-refuses, hertz-refuses, meaning-refuses, delays-refuse, code-refuses}
 use Rattle.promises.proofs.Rule.{refused-exactly, sound-exactly}
 
 -- a row at a number and what is told, from the row at those of the answer
@@ -82,6 +97,7 @@ module _ (r : Record) (before : State) where
   hearing-row (TooLarge f) l = hear-index f l
   hearing-row Expansion (fit, s) = hear-expansion fit s
   hearing-row Heard (fit, s) = hear-values fit s
+  hearing-row Nothing g = absurd g
 
   hearing-is : (o : Outcome) → HearingGives r o → outcome-told ≡ o
   unfolding HearingRefuses
@@ -97,6 +113,53 @@ unfolding HearingNumbers HearingRefuses
 hearing-numbers r before k t = (
   at-row (HearingTable r) (hearing-row r before (valuesOf r before .outcome) (hearing-refuses r before (valuesOf r before .outcome) .0 refl)),
   hearing-at r before,
+)
+
+module _ (indices : List ℕ) where
+  abbrev verdict-told : lsp-verdict.Verdict
+  verdict-told = hertzOf indices .verdict
+
+  hertz-row : (v : lsp-verdict.Verdict) → HertzGives indices v → HertzTable indices (hertz.refusalOf v) (hertz.tellsOf v)
+  hertz-row (Lsp.TooLarge j) l = hertz-index j l
+  hertz-row Lsp.Within w = hertz-values w
+
+  hertz-is : (v : lsp-verdict.Verdict) → HertzGives indices v → verdict-told ≡ v
+  unfolding HertzRefuses
+  hertz-is v g = hertz-refuses indices v .1 g
+
+  hertz-at : {k : ℕ} {t : List ℕ} → HertzTable indices k t
+      → (hertz.refusalOf verdict-told ≡ k) × (hertz.tellsOf verdict-told ≡ t)
+  hertz-at (hertz-index j l) = told hertz.refusalOf hertz.tellsOf (hertz-is (Lsp.TooLarge j) l)
+  hertz-at (hertz-values w) = told hertz.refusalOf hertz.tellsOf (hertz-is Lsp.Within w)
+
+pub hertz-numbers : HertzNumbers
+unfolding HertzNumbers HertzRefuses
+hertz-numbers indices k t = (
+  at-row (HertzTable indices) (hertz-row indices (verdict-told indices) (hertz-refuses indices (verdict-told indices) .0 refl)),
+  hertz-at indices,
+)
+
+module _ (a b c d : ℕ) where
+  abbrev meant : Meant
+  meant = meantBy (a ∷ b ∷ c ∷ d ∷ [])
+
+  meaning-row : (m : Meant) → MeaningGives a b c d m → MeaningTable a b c d (delay.meantRefusal m) (delay.meantTells m)
+  meaning-row (Meant.TooLarge n) l = meaning-index n l
+  meaning-row (Meant.Delays w x y z) m = meaning-delays w x y z m
+
+  meaning-is : (m : Meant) → MeaningGives a b c d m → meant ≡ m
+  unfolding MeaningRefuses
+  meaning-is m g = meaning-refuses a b c d m .1 g
+
+  meaning-at : {k : ℕ} {t : List ℕ} → MeaningTable a b c d k t → (delay.meantRefusal meant ≡ k) × (delay.meantTells meant ≡ t)
+  meaning-at (meaning-index n l) = told delay.meantRefusal delay.meantTells (meaning-is (Meant.TooLarge n) l)
+  meaning-at (meaning-delays w x y z m) = told delay.meantRefusal delay.meantTells (meaning-is (Meant.Delays w x y z) m)
+
+pub meaning-numbers : MeaningNumbers
+unfolding MeaningNumbers MeaningRefuses
+meaning-numbers a b c d k t = (
+  at-row (MeaningTable a b c d) (meaning-row a b c d (meant a b c d) (meaning-refuses a b c d (meant a b c d) .0 refl)),
+  meaning-at a b c d,
 )
 
 module _ (a b c d : ℕ) where

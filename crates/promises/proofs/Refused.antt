@@ -14,13 +14,21 @@ use Rattle.record.specs.Fields.{tooLarge}
 use Rattle.record.specs.declared.Record.{Record}
 use Rattle.record.proofs.Laws.{none-too-large, all-fit-none-too-large, lowest-too-large, too-large-at}
 use Rattle.delays.specs.Table.{twelfthsOf, printedByte, rankWith}
-use Rattle.delays.specs.Codes.{afterOf, codedOf, listed, inWindow, baseOf}
+use Rattle.delays.specs.Codes.{afterOf, meantBy, codedOf, listed, inWindow, baseOf}
+use Rattle.delays.specs.declared.Meant.{Meant}
+use Rattle.delays.specs.declared.Meant.the-variants as Meant
 use Rattle.delays.specs.declared.Coded.{Coded}
 use Rattle.delays.specs.declared.Coded.the-variants.{Codes, NotListed, OutsideWindow}
 use Rattle.delays.proofs.Table.{rank-twelfths, twelfths-rank}
-use Rattle.delays.proofs.Laws.{after-below, after-in, window-step, codes-whole, delays-back}
+use Rattle.delays.proofs.Laws.{Fit, fit-meant, after-below, after-in, window-step, codes-back, delays-back}
+use Rattle.delays.proofs.Pairs as codes
 use Rattle.lsp.specs.Table.{hertzOf}
+use Rattle.lsp.specs.Table as hertz
+use Rattle.lsp.specs.declared.Hertz.{Hertz}
+use Rattle.lsp.specs.declared.Verdict as lsp-verdict
+use Rattle.lsp.specs.declared.Verdict.the-variants as Lsp
 use Rattle.lsp.proofs.Laws.{mark-in-order, in-order-mark, mark-falls, falls-mark}
+use Rattle.lsp.proofs.Laws as lsps
 use Rattle.codebook.specs.Code as code
 use Rattle.codebook.specs.declared.Written as code-written
 use Rattle.codebook.specs.declared.Written.the-variants as Code
@@ -35,11 +43,20 @@ use Rattle.frame.proofs.Answered.{read-eighteen, read-refused, wrong-length, to
 use Rattle.values.specs.Outcome.{outcomeOf}
 use Rattle.values.specs.Outcome as outcome
 use Rattle.values.specs.declared.Outcome.{Outcome}
-use Rattle.values.specs.declared.Outcome.the-variants.{Heard, TooLarge, Expansion}
+use Rattle.values.specs.declared.Outcome.the-variants.{Heard, TooLarge, Expansion, Nothing}
 use Rattle.values.proofs.Laws.{by-outcome, outcome-too-large, outcome-expansion, outcome-heard, values-outcome, refused-state}
+use Rattle.values.proofs.Laws.{nothing-outcome, nothing-state, bits-are-widths}
 use Rattle.gateway.specs.Pairs.{recordIn}
 use Rattle.gateway.specs.Results.{refused, readAnswer, readResult, readInto, recordLeft, writeResult, frameLeftBy}
-use Rattle.promises.specs.Refused.{ReaderRefuses, LowestTooLarge, Ordered, LowestFall, WriterGives, WriterRefuses, RefusedFrameStays, HearingGives, HearingRefuses, RefusedStateStays, Listed, Follows, FirstNotListed, first-unlisted, second-unlisted, third-unlisted, fourth-unlisted, FirstOutside, second-outside, fourth-outside, Sends, CodingGives, DelaysRefuse, CodeGives, CodeRefuses, RefusedCodeStays, RefusedReadStays, RefusedWriteStays}
+use Rattle.promises.specs.Refused.{ReaderRefuses, LowestTooLarge, Ordered, LowestFall, WriterGives, WriterRefuses}
+use Rattle.promises.specs.Refused.{RefusedFrameStays, RefusedReadStays, RefusedWriteStays}
+use Rattle.promises.specs.Refused.{HearingGives, HearingRefuses, RefusedStateStays, NothingStays}
+use Rattle.promises.specs.Refused.{AllWithin, LowestOver, HertzGives, HertzRefuses}
+use Rattle.promises.specs.Refused.{FirstTooLarge, first-large, second-large, third-large, fourth-large}
+use Rattle.promises.specs.Refused.{Means, MeaningGives, MeaningRefuses, Listed, Follows}
+use Rattle.promises.specs.Refused.{FirstNotListed, first-unlisted, second-unlisted, third-unlisted, fourth-unlisted}
+use Rattle.promises.specs.Refused.{FirstOutside, second-outside, fourth-outside, CodingGives, DelaysRefuse}
+use Rattle.promises.specs.Refused.{CodeGives, CodeRefuses, RefusedCodeStays}
 
 pub reader-refuses : ReaderRefuses
 unfolding ReaderRefuses
@@ -66,22 +83,22 @@ module _ (r : Record) where
 
   ordered : recordMark r ≡ 0 → Ordered r
   unfolding recordMark
-  ordered e = mark-in-order (hertzOf (r .lsp)) e
+  ordered e = mark-in-order (hertzOf (r .lsp) .hz) e
 
   mark-zero : Ordered r → recordMark r ≡ 0
   unfolding recordMark
-  mark-zero o = in-order-mark (hertzOf (r .lsp)) o
+  mark-zero o = in-order-mark (hertzOf (r .lsp) .hz) o
 
   lowest-fall : (recordMark r ≡ 0 → ⊥) → LowestFall r (recordMark r)
   unfolding recordMark
   lowest-fall w =
       let one : 1 ≤ recordMark r = omega (arith, w) in
-      let m = mark-falls (hertzOf (r .lsp)) (recordMark r) refl one in
+      let m = mark-falls (hertzOf (r .lsp) .hz) (recordMark r) refl one in
       record { from = one; upto = m .0; here = m .1; lower = m .2 }
 
   fall-is : (m : ℕ) → LowestFall r m → recordMark r ≡ m
   unfolding recordMark
-  fall-is m l = falls-mark (hertzOf (r .lsp)) m (l .from) (l .upto) (l .here) (l .lower)
+  fall-is m l = falls-mark (hertzOf (r .lsp) .hz) m (l .from) (l .upto) (l .here) (l .lower)
 
 -- the writer
 module _ (r : Record) (n : ℕ) where
@@ -140,6 +157,7 @@ hearing-gives : (r : Record) → HearingGives r (outcomeOf r)
 hearing-gives r =
     by-outcome r (HearingGives r) (λ z s. (none-too-large r z, s)) (λ h. lowest-large r (λ z. omega arith)) (λ z s. (none-too-large r z, s))
 
+-- and no outcome is answered whose condition is not met
 hearing-only : (r : Record) (o : Outcome) → HearingGives r o → outcomeOf r ≡ o
 hearing-only r (TooLarge f) l =
     let e = large-is r f l in
@@ -147,6 +165,7 @@ hearing-only r (TooLarge f) l =
     outcome-too-large r (omega (arith, e, one)) ∙ ap TooLarge e
 hearing-only r Expansion (fit, s) = outcome-expansion r (all-fit-none-too-large r fit) s
 hearing-only r Heard (fit, s) = outcome-heard r (all-fit-none-too-large r fit) s
+hearing-only r Nothing g = absurd g
 
 pub hearing-refuses : HearingRefuses
 unfolding HearingRefuses
@@ -157,20 +176,141 @@ pub refused-state-stays : RefusedStateStays
 unfolding RefusedStateStays
 refused-state-stays r before w = refused-state r before (λ e. w (ap outcome.refusalOf (values-outcome r before ∙ e)))
 
+pub nothing-stays : NothingStays
+unfolding NothingStays
+nothing-stays before = (nothing-outcome before, nothing-state before)
+
+-- ten LSP indices in Hz: the bits of each are the width of its field
+module _ (indices : List ℕ) where
+  -- none is refused where every index fits its field
+  all-within : hertz.tooLarge indices ≡ 0 → AllWithin indices
+  all-within z j a b = rw (sym (bits-are-widths (j - 1) (omega arith))) (lsps.none-too-large indices z j a b)
+
+  -- and the other way round
+  within-none : AllWithin indices → hertz.tooLarge indices ≡ 0
+  within-none w = lsps.all-fit indices (λ j a b. rw (bits-are-widths (j - 1) (omega arith)) (w j a b))
+
+  -- what is told is the lowest that does not fit
+  lowest-over : (hertz.tooLarge indices ≡ 0 → ⊥) → LowestOver indices (hertz.tooLarge indices)
+  lowest-over w =
+      let one : 1 ≤ hertz.tooLarge indices = omega (arith, w) in
+      let l = lsps.lowest-too-large indices (hertz.tooLarge indices) refl one in
+      let ten = l .0 in
+      record {
+        from = one;
+        upto = l .0;
+        here = rw (sym (bits-are-widths (hertz.tooLarge indices - 1) (omega arith))) (l .1);
+        lower = λ m a b. rw (sym (bits-are-widths (m - 1) (omega arith))) (l .2 m a b);
+      }
+
+  -- and the lowest that does not fit is told
+  over-is : (j : ℕ) → LowestOver indices j → hertz.tooLarge indices ≡ j
+  over-is j l =
+      let one = l .from in
+      let ten = l .upto in
+      lsps.too-large-at indices j one ten (rw (bits-are-widths (j - 1) (omega arith)) (l .here))
+      (λ m a b. rw (bits-are-widths (m - 1) (omega arith)) (l .lower m a b))
+
+  -- the verdict meets its own condition
+  hertz-gives : HertzGives indices (hertzOf indices .verdict)
+  hertz-gives = fitting (ℕ-discrete (hertz.tooLarge indices) 0)
+    where
+      fitting : Dec (hertz.tooLarge indices ≡ 0) → HertzGives indices (hertzOf indices .verdict)
+      fitting (yes z) = subst (λ (h : Hertz). HertzGives indices (h .verdict)) (sym (lsps.hertz-given indices z)) (all-within z)
+      fitting (no w) =
+          subst (λ (h : Hertz). HertzGives indices (h .verdict)) (sym (lsps.hertz-refused indices (omega (arith, w)))) (lowest-over w)
+
+  -- and no other verdict's is met
+  hertz-only : (v : lsp-verdict.Verdict) → HertzGives indices v → hertzOf indices .verdict ≡ v
+  hertz-only Lsp.Within w = ap (λ (h : Hertz). h .verdict) (lsps.hertz-given indices (within-none w))
+  hertz-only (Lsp.TooLarge j) l =
+      let e = over-is j l in
+      let one = l .from in
+      ap (λ (h : Hertz). h .verdict) (lsps.hertz-refused indices (omega (arith, e, one))) ∙ ap Lsp.TooLarge e
+
+pub hertz-refuses : HertzRefuses
+unfolding HertzRefuses
+hertz-refuses indices v = (λ e. subst (HertzGives indices) e (hertz-gives indices), hertz-only indices v)
+
+-- four codes
+module _ (a b c d : ℕ) where
+  -- as a list
+  abbrev codes-given : List ℕ
+  codes-given = a ∷ b ∷ c ∷ d ∷ []
+
+  -- the first code that is too large is told
+  large-only : {n : ℕ} → FirstTooLarge a b c d n → meantBy codes-given ≡ Meant.TooLarge n
+  large-only (first-large h) = sym (codes.first-large codes-given h)
+  large-only (second-large e h) = sym (codes.second-large codes-given e h)
+  large-only (third-large e f h) = sym (codes.third-large codes-given e f h)
+  large-only (fourth-large e f g h) = sym (codes.fourth-large codes-given e f g h)
+
+  -- codes up to 255 and 63 fit eight and six bits
+  fit-of : a ≤ 255 → b ≤ 63 → c ≤ 255 → d ≤ 63 → Fit a b c d
+  fit-of e f g h = record { first = omega arith; second = omega arith; third = omega arith; fourth = omega arith }
+
+  -- codes that fit mean what the definition says
+  means-only : {w x y z : ℕ} → Means a b c d w x y z → meantBy codes-given ≡ Meant.Delays w x y z
+  unfolding meantBy
+  means-only m =
+      fit-meant a b c d (fit-of (m .byte) (m .step) (m .next-byte) (m .next-step))
+      ∙ rw (m .first, m .second, m .third, m .fourth) refl
+
+  -- the meaning meets its own condition
+  meaning-gives : MeaningGives a b c d (meantBy codes-given)
+  meaning-gives = one (decLe a 255)
+    where
+      told : {n : ℕ} → FirstTooLarge a b c d n → MeaningGives a b c d (meantBy codes-given)
+      told l = subst (MeaningGives a b c d) (sym (large-only l)) l
+
+      four : a ≤ 255 → b ≤ 63 → c ≤ 255 → Dec (d ≤ 63) → MeaningGives a b c d (meantBy codes-given)
+      four e f g (no h) = told (fourth-large e f g (omega (arith, h)))
+      four e f g (yes h) =
+          let m : Means a b c d _ _ _ _ =
+          record { byte = e; step = f; next-byte = g; next-step = h; first = refl; second = refl; third = refl; fourth = refl } in
+          subst (MeaningGives a b c d) (sym (means-only m)) m
+
+      three : a ≤ 255 → b ≤ 63 → Dec (c ≤ 255) → MeaningGives a b c d (meantBy codes-given)
+      three e f (no g) = told (third-large e f (omega (arith, g)))
+      three e f (yes g) = four e f g (decLe d 63)
+
+      two : a ≤ 255 → Dec (b ≤ 63) → MeaningGives a b c d (meantBy codes-given)
+      two e (no f) = told (second-large e (omega (arith, f)))
+      two e (yes f) = three e f (decLe c 255)
+
+      one : Dec (a ≤ 255) → MeaningGives a b c d (meantBy codes-given)
+      one (no e) = told (first-large (omega (arith, e)))
+      one (yes e) = two e (decLe b 63)
+
+  -- and no other's is met
+  meaning-only : (m : Meant) → MeaningGives a b c d m → meantBy codes-given ≡ m
+  meaning-only (Meant.TooLarge n) l = large-only l
+  meaning-only (Meant.Delays w x y z) m = means-only m
+
+pub meaning-refuses : MeaningRefuses
+unfolding MeaningRefuses
+meaning-refuses a b c d m = (λ e. subst (MeaningGives a b c d) e (meaning-gives a b c d), meaning-only a b c d m)
+
 -- delays: the tests of the definition, in the words of the conditions
 listed-yes : (delay : ℕ) → listed delay ≡ true → Listed delay
 listed-yes delay e =
     let h : rankWith delay < 256 = ltb-true (rankWith delay) 256 e in
     (rankWith delay, h, twelfths-rank delay h)
 
+-- a delay that is the twelfths of some rank passes the test
 listed-test : (delay : ℕ) → Listed delay → listed delay ≡ true
 listed-test delay (rank, h, e) =
     let same : rankWith delay ≡ rank = ap rankWith (sym e) ∙ rank-twelfths rank h in
     lt-ltb (rankWith delay) 256 (omega (arith, same, h))
 
+-- one that fails it is of none
 listed-no : (delay : ℕ) → listed delay ≡ false → Listed delay → ⊥
-listed-no delay e l = let h = ltb-false (rankWith delay) 256 e in let g = ltb-true (rankWith delay) 256 (listed-test delay l) in omega (arith, h, g)
+listed-no delay e l =
+    let h = ltb-false (rankWith delay) 256 e in
+    let g = ltb-true (rankWith delay) 256 (listed-test delay l) in
+    omega (arith, h, g)
 
+-- and one of none fails it
 unlisted-test : (delay : ℕ) → (Listed delay → ⊥) → listed delay ≡ false
 unlisted-test delay w = go (listed delay) refl
   where
@@ -180,19 +320,23 @@ unlisted-test delay w = go (listed delay) refl
 
 -- the second is in the window of the first
 module _ (a b : ℕ) (second : Listed b) where
+  -- a rank in the window is meant by some six-bit code
   follows-yes : inWindow (rankWith a) (rankWith b) ≡ true → Follows a b
   follows-yes e =
       let s = window-step (rankWith a) (rankWith b) e in
       (rankWith b - baseOf (rankWith a), s .0, ap twelfthsOf (s .1) ∙ twelfths-rank b (ltb-true (rankWith b) 256 (listed-test b second)))
 
+  -- and a delay that some six-bit code means is in the window
   follows-test : Follows a b → inWindow (rankWith a) (rankWith b) ≡ true
   follows-test (step, h, e) =
-      ap (inWindow (rankWith a)) (ap rankWith (sym e) ∙ rank-twelfths (afterOf (rankWith a) step) (after-below (rankWith a) step))
-      ∙ after-in (rankWith a) step
+      ap (inWindow (rankWith a)) (ap rankWith (sym e) ∙ rank-twelfths (afterOf (rankWith a) step) (after-below (rankWith a) step h))
+      ∙ after-in (rankWith a) step h
 
+  -- outside the window no code means it
   follows-no : inWindow (rankWith a) (rankWith b) ≡ false → Follows a b → ⊥
   follows-no e f = true≢false (sym (follows-test f) ∙ e)
 
+  -- and where none does it is outside
   outside-test : (Follows a b → ⊥) → inWindow (rankWith a) (rankWith b) ≡ false
   outside-test w = go (inWindow (rankWith a) (rankWith b)) refl
     where
@@ -202,6 +346,7 @@ module _ (a b : ℕ) (second : Listed b) where
 
 -- four delays
 module _ (a b c d : ℕ) where
+  -- as a list
   abbrev delays-given : List ℕ
   delays-given = a ∷ b ∷ c ∷ d ∷ []
 
@@ -210,10 +355,12 @@ module _ (a b c d : ℕ) where
   unfolding codedOf
   refused-first e = rw e
 
+  -- the second is not listed
   refused-second : listed a ≡ true → listed b ≡ false → codedOf delays-given ≡ NotListed 2
   unfolding codedOf
   refused-second e f = rw (e, f)
 
+  -- the second is outside the window of the first
   outside-second : listed a ≡ true → listed b ≡ true → inWindow (rankWith a) (rankWith b) ≡ false → codedOf delays-given ≡ OutsideWindow 2
   unfolding codedOf
   outside-second e f g = rw (e, f, g)
@@ -236,12 +383,7 @@ module _ (a b c d : ℕ) where
     unfolding codedOf
     all-sent e f g = rw (one, two, near, e, f, g)
 
-  -- what is sent is heard
-  sends : (i j k l : ℕ) → codedOf delays-given ≡ Codes i j k l → Sends a b c d i j k l
-  sends i j k l e =
-      let s = delays-back a b c d i j k l e in
-      record { first = s .first; second = s .second; third = s .third; fourth = s .fourth; heard = s .heard }
-
+  -- the condition of an answer to these four
   abbrev Given : Coded → Type 0
   Given x = CodingGives a b c d x
 
@@ -255,7 +397,7 @@ module _ (a b c d : ℕ) where
           subst Given (sym (outside-fourth e f g h i j))
           (fourth-outside (listed-yes a e) (listed-yes b f) (follows-yes a b (listed-yes b f) g) (listed-yes c h) (listed-yes d i)
           (follows-no c d (listed-yes d i) j))
-      last e f g h i true j = subst Given (sym (all-sent e f g h i j)) (sends _ _ _ _ (all-sent e f g h i j))
+      last e f g h i true j = subst Given (sym (all-sent e f g h i j)) (delays-back a b c d _ _ _ _ (all-sent e f g h i j))
 
       fourth : listed a ≡ true → listed b ≡ true → inWindow (rankWith a) (rankWith b) ≡ true → listed c ≡ true
           → (t : Bool) → listed d ≡ t → Given (codedOf delays-given)
@@ -283,6 +425,7 @@ module _ (a b c d : ℕ) where
       first false e = subst Given (sym (refused-first e)) (first-unlisted (listed-no a e))
       first true e = second e (listed b) refl
 
+  -- where a delay is the first that is not listed it is refused with 4
   not-listed-only : {n : ℕ} → FirstNotListed a b c d n → codedOf delays-given ≡ NotListed n
   not-listed-only (first-unlisted w) = refused-first (unlisted-test a w)
   not-listed-only (second-unlisted p w) = refused-second (listed-test a p) (unlisted-test b w)
@@ -290,15 +433,17 @@ module _ (a b c d : ℕ) where
   not-listed-only (fourth-unlisted p q f s w) =
       refused-fourth (listed-test a p) (listed-test b q) (follows-test a b q f) (listed-test c s) (unlisted-test d w)
 
+  -- where one is the first outside its window it is refused with 5
   outside-only : {n : ℕ} → FirstOutside a b c d n → codedOf delays-given ≡ OutsideWindow n
   outside-only (second-outside p q w) = outside-second (listed-test a p) (listed-test b q) (outside-test a b q w)
   outside-only (fourth-outside p q f s t w) =
       outside-fourth (listed-test a p) (listed-test b q) (follows-test a b q f) (listed-test c s) (listed-test d t) (outside-test c d t w)
 
+  -- so no answer is given whose condition is not met
   coding-only : (x : Coded) → CodingGives a b c d x → codedOf delays-given ≡ x
   coding-only (NotListed n) g = not-listed-only g
   coding-only (OutsideWindow n) g = outside-only g
-  coding-only (Codes i j k l) g = ap codedOf (sym (g .heard)) ∙ codes-whole i j k l (g .first) (g .second) (g .third) (g .fourth)
+  coding-only (Codes i j k l) g = codes-back i j k l a b c d g
 
 pub delays-refuse : DelaysRefuse
 unfolding DelaysRefuse
@@ -316,6 +461,7 @@ code-gives index n = sized (ℕ-discrete n 60)
     sized (yes e) = indexed e (decLe index 511)
     sized (no w) = rw (ne-eqb n 60 w) w
 
+-- no answer is given whose condition is not met
 code-only : (index n : ℕ) (a : code-written.Written) → CodeGives index n a → code.writtenOf index n ≡ a
 code-only index n Code.WrongLength w = rw (ne-eqb n 60 w)
 code-only index n Code.TooLarge (e, h) = rw (eq-eqb n 60 e, lt-leb index 511 h)
@@ -325,6 +471,7 @@ pub code-refuses : CodeRefuses
 unfolding CodeRefuses
 code-refuses index n a = (λ e. subst (CodeGives index n) e (code-gives index n), code-only index n a)
 
+-- a refusal leaves what the buffer held
 code-left : (a : code-written.Written) (index : ℕ) (l : List ℤ) → (code.refusalOf a ≡ 0 → ⊥) → code.leftAfter a index l ≡ l
 code-left Code.Code index l w = absurd (w refl)
 code-left Code.WrongLength index l w = refl

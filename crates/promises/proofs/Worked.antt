@@ -10,7 +10,7 @@ use Rattle.delays.specs.Table.{delays, bytes, twelfthsOf, printedByte, rankOf, 
 use Rattle.delays.specs.Codes.{meantBy}
 use Rattle.lsp.specs.Average.{averagesOf}
 use Rattle.values.specs.Values.{delaysOf}
-use Rattle.lsp.specs.Table.{hzTable, hertzOf}
+use Rattle.lsp.specs.Table.{hzTable, tooLarge, hertzOf}
 use Rattle.lsp.specs.Order.{markOf}
 use Rattle.codebook.specs.Draw.{freshGenerator, wrapped, drawOf}
 use Rattle.frame.specs.Places.{places, seek}
@@ -20,5 +20,5 @@ use Rattle.frame.specs.Answers.{readingOf, recordMark}
 use Rattle.promises.specs.Worked.{workedNumbers, AllTwelve}
 
 pub all-twelve : AllTwelve
-unfolding AllTwelve workedNumbers apart nearestOf twelfthsOf printedByte rankOf rankWith meantBy averagesOf delaysOf lowestFrom tabulateFrom total fromBits placeIn cgTable pgTable delays bytes hzTable hertzOf markOf freshGenerator wrapped drawOf places seek guardedPlace number mended bitAt packed indexIn readingOf recordMark
+unfolding AllTwelve workedNumbers apart nearestOf twelfthsOf printedByte rankOf rankWith meantBy averagesOf delaysOf lowestFrom tabulateFrom total fromBits placeIn cgTable pgTable delays bytes hzTable tooLarge hertzOf markOf freshGenerator wrapped drawOf places seek guardedPlace number mended bitAt packed indexIn readingOf recordMark
 all-twelve = tt

@@ -3,11 +3,17 @@
 use Rattle.listing.specs.Promised.{ListingFits, ListingStands, RefusedListingStays}
 use Rattle.promises.specs.Frames.{ReadsBack, SameBits, DamageAlone, OneMended, TwoReported, EveryFrameRead, OneFrame, SixteenFrames}
 use Rattle.promises.specs.Functions.{WriteThenRead, ReadThenWrite, RepairByDamage, OneFlip, TwoFlips, NoTwoFrames}
-use Rattle.promises.specs.Refused.{ReaderRefuses, WriterRefuses, RefusedFrameStays, HearingRefuses, RefusedStateStays, DelaysRefuse, CodeRefuses, RefusedCodeStays, RefusedReadStays, RefusedWriteStays}
+use Rattle.promises.specs.Refused.{ReaderRefuses, WriterRefuses, RefusedFrameStays, RefusedReadStays, RefusedWriteStays}
+use Rattle.promises.specs.Refused.{HearingRefuses, RefusedStateStays, NothingStays, HertzRefuses, MeaningRefuses}
+use Rattle.promises.specs.Refused.{DelaysRefuse, CodeRefuses, RefusedCodeStays}
 use Rattle.promises.specs.Repairs.{CleanChangesNothing, ParityHitChangesNothing, DataHitInvertsOne, TwoNeverMended, UnguardedUnseen, ThreeUnseen}
 use Rattle.promises.specs.Boundary.{PairsHoldRecord, ReadTells, WriteTells, BoundaryReadsBack}
-use Rattle.promises.specs.Values.{NearestEntry, GainsComeBack, CgMirrored, DelaysRise, EachByteOnce, DelaysComeBack, FixedWindows, GainsHeard, DelaysHeard, Averaged, FirstAveraged, StateHolds, MarkIsLowest, Ternary, CodesOverlap, DrawsWrap, DrawsAtPositions}
-use Rattle.promises.specs.Numbers.{WriterNumbers, HearingNumbers, DelayNumbers, CodeNumbers, GainNumbers, RecordingNumbers}
+use Rattle.promises.specs.Values.{NearestEntry, GainsComeBack, CgMirrored, GainsHeard}
+use Rattle.promises.specs.Values.{DelaysRise, EachByteOnce, DelaysComeBack, FixedWindows, DelaysHeard}
+use Rattle.promises.specs.Values.{LspsHeard, MarkHeard, MarkIsLowest, Averaged, FirstAveraged, FreshNotBegun, StateHolds}
+use Rattle.promises.specs.Values.{Ternary, CodesOverlap, DrawsWrap, DrawsAtPositions}
+use Rattle.promises.specs.Numbers.{WriterNumbers, HearingNumbers, HertzNumbers, MeaningNumbers, DelayNumbers}
+use Rattle.promises.specs.Numbers.{CodeNumbers, GainNumbers, RecordingNumbers}
 use Rattle.promises.specs.Rule.{LowestFirst, RefusedExactly, SoundExactly}
 use Rattle.promises.specs.Made.{MadeIsSound, SoundIsMade, NoTwo}
 use Rattle.promises.specs.Parts.{VoiceBlocksStand, FramesAreAll, FramesAreLong, FramesFit, EndCounts, RepairsCounted, BreaksCounted, RefusedHasNone, EmptyRefused}
@@ -27,11 +33,15 @@ pub record DemandOne : Type 0 where
   pub reader-refuses : ReaderRefuses
   pub writer-refuses : WriterRefuses
   pub hearing-refuses : HearingRefuses
+  pub hertz-refuses : HertzRefuses
+  pub meaning-refuses : MeaningRefuses
   pub delays-refuse : DelaysRefuse
   pub code-refuses : CodeRefuses
   -- each by its number, with what it tells
   pub writer-numbers : WriterNumbers
   pub hearing-numbers : HearingNumbers
+  pub hertz-numbers : HertzNumbers
+  pub meaning-numbers : MeaningNumbers
   pub delay-numbers : DelayNumbers
   pub code-numbers : CodeNumbers
   pub gain-numbers : GainNumbers
@@ -39,6 +49,7 @@ pub record DemandOne : Type 0 where
   -- nothing is written, and the state stays
   pub refused-frame-stays : RefusedFrameStays
   pub refused-state-stays : RefusedStateStays
+  pub nothing-stays : NothingStays
   pub refused-code-stays : RefusedCodeStays
   pub refused-read-stays : RefusedReadStays
   pub refused-write-stays : RefusedWriteStays
@@ -72,10 +83,13 @@ pub record DemandTwo : Type 0 where
   pub delays-come-back : DelaysComeBack
   pub fixed-windows : FixedWindows
   pub delays-heard : DelaysHeard
+  pub lsps-heard : LspsHeard
+  pub mark-heard : MarkHeard
+  pub mark-is-lowest : MarkIsLowest
   pub averaged : Averaged
   pub first-averaged : FirstAveraged
+  pub fresh-not-begun : FreshNotBegun
   pub state-holds : StateHolds
-  pub mark-is-lowest : MarkIsLowest
   pub ternary : Ternary
   pub codes-overlap : CodesOverlap
   pub draws-wrap : DrawsWrap

@@ -4,13 +4,15 @@
 use mathlib.Core.Path.{_≡_}
 use mathlib.Core.List.{List, [], _∷_}
 use mathlib.Core.Logic.{_↔_}
-use Prim.Native.Nat.{ℕ, _<_, _≤_}
+use Prim.Native.Nat.{ℕ, _+_, _-_, _*_, _<_, _≤_}
 use lib.IntN.{ℤ}
 use Rattle.record.specs.declared.Record.{Record}
 use Rattle.gains.specs.Gains.{gainOf}
 use Rattle.gains.specs.Gains as gain
-use Rattle.delays.specs.Codes.{codedOf}
+use Rattle.delays.specs.Codes.{meantBy, codedOf}
 use Rattle.delays.specs.Codes as delay
+use Rattle.lsp.specs.Table.{hertzOf}
+use Rattle.lsp.specs.Table as hertz
 use Rattle.codebook.specs.Code as code
 use Rattle.frame.specs.Answers.{writtenOf}
 use Rattle.frame.specs.Answers as frame
@@ -21,7 +23,8 @@ use Rattle.blocks.specs.Walk.{walkedOf}
 use Rattle.blocks.specs.Refusals.{walkedRefusal, walkedTells}
 use Rattle.blocks.specs.declared.Cause.the-variants.{TooLong, HeaderCut, PastEnd, WrongSize, UnknownKind, OutOfTurn, EndMissing, WrongCount, Extra}
 use Rattle.recording.specs.Judged.{judgedOf, judgedRefusal, judgedTells}
-use Rattle.promises.specs.Refused.{AllFit, LowestTooLarge, Ordered, LowestFall, FirstNotListed, FirstOutside, Sends}
+use Rattle.promises.specs.Refused.{AllFit, LowestTooLarge, Ordered, LowestFall, AllWithin, LowestOver}
+use Rattle.promises.specs.Refused.{FirstTooLarge, Means, FirstNotListed, FirstOutside, Sends}
 use Rattle.promises.specs.Rule.{Given, Accepted}
 
 -- a record to write, into a buffer of n bytes
@@ -48,6 +51,27 @@ HearingNumbers =
     (r : Record) (before : State) (k : ℕ) (t : List ℕ)
     → ((hearing.refusalOf (valuesOf r before .outcome) ≡ k) × (hearing.tellsOf (valuesOf r before .outcome) ≡ t)) ↔ HearingTable r k t
 
+-- ten LSP indices to put in Hz; LSP j is field j
+pub data HertzTable (indices : List ℕ) : ℕ → List ℕ → Type 0 where
+  hertz-index : (j : ℕ) → LowestOver indices j → HertzTable indices 2 (j ∷ [])
+  hertz-values : AllWithin indices → HertzTable indices 0 []
+
+unfoldable pub HertzNumbers : Type 0
+HertzNumbers =
+    (indices : List ℕ) (k : ℕ) (t : List ℕ)
+    → ((hertz.refusalOf (hertzOf indices .verdict) ≡ k) × (hertz.tellsOf (hertzOf indices .verdict) ≡ t)) ↔ HertzTable indices k t
+
+-- four codes to hear; that of subframe n is field 10 + 4(n-1) + 1
+pub data MeaningTable (a b c d : ℕ) : ℕ → List ℕ → Type 0 where
+  meaning-index : (n : ℕ) → FirstTooLarge a b c d n → MeaningTable a b c d 2 ((10 + 4 * (n - 1) + 1) ∷ [])
+  meaning-delays : (w x y z : ℕ) → Means a b c d w x y z → MeaningTable a b c d 0 []
+
+unfoldable pub MeaningNumbers : Type 0
+MeaningNumbers =
+    (a b c d k : ℕ) (t : List ℕ)
+    → ((delay.meantRefusal (meantBy (a ∷ b ∷ c ∷ d ∷ [])) ≡ k) × (delay.meantTells (meantBy (a ∷ b ∷ c ∷ d ∷ [])) ≡ t))
+    ↔ MeaningTable a b c d k t
+
 -- four delays to send
 pub data DelayTable (a b c d : ℕ) : ℕ → List ℕ → Type 0 where
   delay-unlisted : (n : ℕ) → FirstNotListed a b c d n → DelayTable a b c d 4 (n ∷ [])
@@ -57,7 +81,8 @@ pub data DelayTable (a b c d : ℕ) : ℕ → List ℕ → Type 0 where
 unfoldable pub DelayNumbers : Type 0
 DelayNumbers =
     (a b c d k : ℕ) (t : List ℕ)
-    → ((delay.refusalOf (codedOf (a ∷ b ∷ c ∷ d ∷ [])) ≡ k) × (delay.tellsOf (codedOf (a ∷ b ∷ c ∷ d ∷ [])) ≡ t)) ↔ DelayTable a b c d k t
+    → ((delay.refusalOf (codedOf (a ∷ b ∷ c ∷ d ∷ [])) ≡ k) × (delay.tellsOf (codedOf (a ∷ b ∷ c ∷ d ∷ [])) ≡ t))
+    ↔ DelayTable a b c d k t
 
 -- a code to write, into a buffer of n elements; "0 for a lone index (code over 511, gain over 31)"
 pub data CodeTable (index n : ℕ) : ℕ → List ℕ → Type 0 where

@@ -8,22 +8,26 @@ use lib.IntN.{ℤ, pos}
 use lib.ListN.{length}
 use Rattle.record.specs.Fields.{indexOf, widthOf}
 use Rattle.record.specs.declared.Record.{Record}
-use Rattle.delays.specs.Table.{twelfthsOf, rankWith}
+use Rattle.delays.specs.Table.{twelfthsOf, rankOf, rankWith}
 use Rattle.delays.specs.Codes.{afterOf, meantBy, codedOf}
+use Rattle.delays.specs.declared.Meant.{Meant}
+use Rattle.delays.specs.declared.Meant.the-variants as Meant
 use Rattle.delays.specs.declared.Coded.{Coded}
 use Rattle.delays.specs.declared.Coded.the-variants.{Codes, NotListed, OutsideWindow}
 use Rattle.lsp.specs.Table.{lsp, hertzOf}
 use Rattle.lsp.specs.Order.{InOrder}
+use Rattle.lsp.specs.declared.Verdict as lsp-verdict
+use Rattle.lsp.specs.declared.Verdict.the-variants as Lsp
 use Rattle.codebook.specs.Code as code
 use Rattle.codebook.specs.declared.Written as code-written
 use Rattle.codebook.specs.declared.Written.the-variants as Code
 use Rattle.frame.specs.Answers.{readingOf, readRefusal, writtenOf, frameLeft, refusalOf}
 use Rattle.frame.specs.declared.Written.{Written}
 use Rattle.frame.specs.declared.Written.the-variants as Written
-use Rattle.values.specs.Values.{valuesOf}
+use Rattle.values.specs.Values.{nothingHeard, valuesOf}
 use Rattle.values.specs.Outcome as outcome
 use Rattle.values.specs.declared.Outcome.{Outcome}
-use Rattle.values.specs.declared.Outcome.the-variants.{Heard, TooLarge, Expansion}
+use Rattle.values.specs.declared.Outcome.the-variants.{Heard, TooLarge, Expansion, Nothing}
 use Rattle.values.specs.declared.State.{State}
 use Rattle.gateway.specs.Results.{readResult, recordLeft, writeResult, frameLeftBy}
 
@@ -43,13 +47,13 @@ pub record LowestTooLarge (r : Record) (f : ℕ) : Type 0 where
 
 -- the parameters are in order; or m is the lowest number after which they fall
 abbrev pub Ordered : Record → Type 0
-Ordered r = InOrder (hertzOf (r .lsp))
+Ordered r = InOrder (hertzOf (r .lsp) .hz)
 
 pub record LowestFall (r : Record) (m : ℕ) : Type 0 where
   pub from : 1 ≤ m
   pub upto : m ≤ 9
-  pub here : lsp (hertzOf (r .lsp)) (m + 1) < lsp (hertzOf (r .lsp)) m
-  pub lower : (j : ℕ) → 1 ≤ j → j < m → lsp (hertzOf (r .lsp)) j ≤ lsp (hertzOf (r .lsp)) (j + 1)
+  pub here : lsp (hertzOf (r .lsp) .hz) (m + 1) < lsp (hertzOf (r .lsp) .hz) m
+  pub lower : (j : ℕ) → 1 ≤ j → j < m → lsp (hertzOf (r .lsp) .hz) j ≤ lsp (hertzOf (r .lsp) .hz) (j + 1)
 
 -- the writer, lent a buffer of n bytes: 1, 2, 3, 6 in that order
 abbrev pub WriterGives : Record → ℕ → Written → Type 0
@@ -70,6 +74,7 @@ abbrev pub HearingGives : Record → Outcome → Type 0
 HearingGives r (TooLarge f) = LowestTooLarge r f
 HearingGives r Expansion = AllFit r × (r .sp ≡ 1)
 HearingGives r Heard = AllFit r × (r .sp ≡ 0)
+HearingGives r Nothing = ⊥
 
 unfoldable pub HearingRefuses : Type 0
 HearingRefuses = (r : Record) (before : State) (o : Outcome) → (valuesOf r before .outcome ≡ o) ↔ HearingGives r o
@@ -77,6 +82,52 @@ HearingRefuses = (r : Record) (before : State) (o : Outcome) → (valuesOf r bef
 unfoldable pub RefusedStateStays : Type 0
 RefusedStateStays =
     (r : Record) (before : State) → (outcome.refusalOf (valuesOf r before .outcome) ≡ 0 → ⊥) → valuesOf r before .state ≡ before
+
+-- where there is no record the state is as it came, too
+unfoldable pub NothingStays : Type 0
+NothingStays = (before : State) → (nothingHeard before .outcome ≡ Nothing) × (nothingHeard before .state ≡ before)
+
+-- ten LSP indices to put in Hz: 2 for the lowest that is too large for its field
+abbrev pub AllWithin : List ℕ → Type 0
+AllWithin indices = (j : ℕ) → 1 ≤ j → j ≤ 10 → lsp indices j < 2 ^ widthOf j
+
+pub record LowestOver (indices : List ℕ) (j : ℕ) : Type 0 where
+  pub from : 1 ≤ j
+  pub upto : j ≤ 10
+  pub here : 2 ^ widthOf j ≤ lsp indices j
+  pub lower : (m : ℕ) → 1 ≤ m → m < j → lsp indices m < 2 ^ widthOf m
+
+abbrev pub HertzGives : List ℕ → lsp-verdict.Verdict → Type 0
+HertzGives indices (Lsp.TooLarge j) = LowestOver indices j
+HertzGives indices Lsp.Within = AllWithin indices
+
+unfoldable pub HertzRefuses : Type 0
+HertzRefuses = (indices : List ℕ) (v : lsp-verdict.Verdict) → (hertzOf indices .verdict ≡ v) ↔ HertzGives indices v
+
+-- four codes to hear: 2 for the first that is too large for its field, of eight bits in subframes 1 and 3 and of six in 2 and 4
+pub data FirstTooLarge (a b c d : ℕ) : ℕ → Type 0 where
+  first-large : 255 < a → FirstTooLarge a b c d 1
+  second-large : a ≤ 255 → 63 < b → FirstTooLarge a b c d 2
+  third-large : a ≤ 255 → b ≤ 63 → 255 < c → FirstTooLarge a b c d 3
+  fourth-large : a ≤ 255 → b ≤ 63 → c ≤ 255 → 63 < d → FirstTooLarge a b c d 4
+
+-- otherwise subframes 1 and 3 mean the rank of their byte, and 2 and 4 count on from the window's base
+pub record Means (a b c d w x y z : ℕ) : Type 0 where
+  pub byte : a ≤ 255
+  pub step : b ≤ 63
+  pub next-byte : c ≤ 255
+  pub next-step : d ≤ 63
+  pub first : twelfthsOf (rankOf a) ≡ w
+  pub second : twelfthsOf (afterOf (rankOf a) b) ≡ x
+  pub third : twelfthsOf (rankOf c) ≡ y
+  pub fourth : twelfthsOf (afterOf (rankOf c) d) ≡ z
+
+abbrev pub MeaningGives : ℕ → ℕ → ℕ → ℕ → Meant → Type 0
+MeaningGives a b c d (Meant.TooLarge n) = FirstTooLarge a b c d n
+MeaningGives a b c d (Meant.Delays w x y z) = Means a b c d w x y z
+
+unfoldable pub MeaningRefuses : Type 0
+MeaningRefuses = (a b c d : ℕ) (m : Meant) → (meantBy (a ∷ b ∷ c ∷ d ∷ []) ≡ m) ↔ MeaningGives a b c d m
 
 -- a delay is in the list; after another one some six-bit code means it
 abbrev pub Listed : ℕ → Type 0
@@ -96,13 +147,9 @@ pub data FirstOutside (a b c d : ℕ) : ℕ → Type 0 where
   second-outside : Listed a → Listed b → (Follows a b → ⊥) → FirstOutside a b c d 2
   fourth-outside : Listed a → Listed b → Follows a b → Listed c → Listed d → (Follows c d → ⊥) → FirstOutside a b c d 4
 
--- four codes within eight and six bits from which the four delays are heard
-pub record Sends (a b c d i j k l : ℕ) : Type 0 where
-  pub first : i < 256
-  pub second : j < 64
-  pub third : k < 256
-  pub fourth : l < 64
-  pub heard : meantBy (i ∷ j ∷ k ∷ l ∷ []) ≡ a ∷ b ∷ c ∷ d ∷ []
+-- four codes that mean the four delays, and so fit their fields
+abbrev pub Sends : ℕ → ℕ → ℕ → ℕ → ℕ → ℕ → ℕ → ℕ → Type 0
+Sends a b c d i j k l = meantBy (i ∷ j ∷ k ∷ l ∷ []) ≡ Meant.Delays a b c d
 
 abbrev pub CodingGives : ℕ → ℕ → ℕ → ℕ → Coded → Type 0
 CodingGives a b c d (NotListed n) = FirstNotListed a b c d n

@@ -1,4 +1,5 @@
--- The twelve worked numbers of document 01, as one list over the definitions that the contracts cite. proofs/Worked.antt computes it.
+-- The twelve worked numbers of document 01, as one list over the definitions that the contracts cite.
+-- proofs/Worked.antt computes it.
 use mathlib.Core.Bool.{Bool, true, false, cond}
 use mathlib.Core.List.{List, [], _∷_, map}
 use Prim.Native.Nat.{ℕ, suc, _*_}
@@ -19,7 +20,7 @@ use Rattle.lsp.specs.Average.{averagesOf}
 use Rattle.codebook.specs.Draw.{draws, freshGenerator}
 use Rattle.frame.specs.Frame.{packed}
 use Rattle.frame.specs.Answers.{readingOf}
-use Rattle.values.specs.Values.{delaysOf}
+use Rattle.values.specs.Values.{delaysIn, delaysOf}
 
 -- what the definitions give, and what document 01 prints
 pub record Worked : Type 0 where
@@ -48,19 +49,23 @@ zeros n = tabulate (λ k. pos 0) n
 
 -- what a six-bit code means after a delay that is sent by its printed byte, both in twelfths
 abbrev pub following : ℕ → ℕ → ℕ
-following delay code = getD (meantBy (printedByte (rankWith delay) ∷ code ∷ 0 ∷ 0 ∷ [])) 1 0
+following delay code = getD (delaysIn (meantBy (printedByte (rankWith delay) ∷ code ∷ 0 ∷ 0 ∷ []))) 1 0
 
 -- what a printed byte means in subframe 1
-abbrev pub firstHeard : ℕ → ℕ
-firstHeard byte = getD (meantBy (byte ∷ 0 ∷ 0 ∷ 0 ∷ [])) 0 0
+abbrev pub byteMeans : ℕ → ℕ
+byteMeans byte = getD (delaysIn (meantBy (byte ∷ 0 ∷ 0 ∷ 0 ∷ []))) 0 0
 
 -- ten LSPs in Hz with LSP 4 at index 12 and LSP 5 at a given one, no lower pair falling
 abbrev pub fifthAt : ℕ → List ℕ
-fifthAt index = hertzOf (0 ∷ 0 ∷ 0 ∷ 12 ∷ index ∷ 7 ∷ 7 ∷ 7 ∷ 7 ∷ 7 ∷ [])
+fifthAt index = hertzOf (0 ∷ 0 ∷ 0 ∷ 12 ∷ index ∷ 7 ∷ 7 ∷ 7 ∷ 7 ∷ 7 ∷ []) .hz
 
 unfoldable pub workedNumbers : List Worked
 workedNumbers =
-    record { number = 1; given = draws 4 freshGenerator; printed = pos 8472 ∷ minus 31377 ∷ minus 26172 ∷ pos 25681 ∷ [] } ∷
+    record {
+      number = 1;
+      given = draws 4 freshGenerator;
+      printed = pos 8472 ∷ minus 31377 ∷ minus 26172 ∷ pos 25681 ∷ [];
+    } ∷
     record { number = 2; given = read (only []); printed = pos 0 ∷ zeros 28 } ∷
     record { number = 3; given = read (only (104 ∷ [])); printed = pos 15 ∷ zeros 28 } ∷
     record {
@@ -74,7 +79,7 @@ workedNumbers =
     } ∷
     record { number = 5; given = read (only (21 ∷ [])); printed = pos 1 ∷ zeros 28 } ∷
     record { number = 6; given = plain (getD (averagesOf (340 ∷ []) (250 ∷ [])) 0 0 ∷ []); printed = plain (2630 ∷ []) } ∷
-    record { number = 7; given = plain (firstHeard 0x42 ∷ firstHeard 0xaf ∷ []); printed = plain (240 ∷ 1764 ∷ []) } ∷
+    record { number = 7; given = plain (byteMeans 0x42 ∷ byteMeans 0xaf ∷ []); printed = plain (240 ∷ 1764 ∷ []) } ∷
     record { number = 8; given = plain (following 351 0 ∷ following 351 63 ∷ []); printed = plain (240 ∷ 460 ∷ []) } ∷
     record { number = 9; given = plain (following 354 0 ∷ following 354 63 ∷ []); printed = plain (244 ∷ 464 ∷ []) } ∷
     record {

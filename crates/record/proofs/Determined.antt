@@ -7,6 +7,7 @@ use borrow.Fn.Kinds.{Dens, resT, endedOf}
 use Rattle.record.proofs.Record.too_large.Kinds as too-large
 use Rattle.record.proofs.Record.too_large.Reads as too-large-reads
 
-pub too-large-determined : (κs : Lfts 0) (a : Dens κs too-large.ps) (r₁ r₂ : resT too-large.r κs .Denot) (x₁ x₂ : AtExit (endedOf 0 too-large.ps too-large.r) κs)
+pub too-large-determined : (κs : Lfts 0) (a : Dens κs too-large.ps) (r₁ r₂ : resT too-large.r κs .Denot)
+    (x₁ x₂ : AtExit (endedOf 0 too-large.ps too-large.r) κs)
     → too-large-reads.Post κs a r₁ x₁ → too-large-reads.Post κs a r₂ x₂ → r₁ ≡ r₂
 too-large-determined κs a r₁ r₂ x₁ x₂ p q = p ∙ sym q

@@ -21,6 +21,7 @@ use Rattle.record.specs.declared.Record.{Record}
 abbrev below-16 : ℕ → ℕ → Bool
 below-16 k w = ltb w 16
 
+-- so at each of the 28 places
 widths-small : (i : ℕ) → i < 28 → getD widths i 0 < 16
 widths-small i h = ltb→lt (getD widths i 0) 16 (at 0 below-16 widths tt i h)
 
@@ -30,12 +31,15 @@ overBy indices i = leb (2 ^ widthOf i) (getD indices (i - 1) 0)
 
 -- the lowest such field of a record's own list is the record's
 module _ (r : Record) {indices : List ℕ} (e : indices ≡ tabulate (λ k. indexOf r (k + 1)) 28) where
+  -- what is over in the list is over in the record
   same-over : (m : ℕ) → 1 ≤ m → m ≤ 28 → overBy indices m ≡ over r m
   same-over m a b =
       let back : m - 1 + 1 ≡ m = omega arith in
       ap (leb (2 ^ widthOf m))
-      (ap (λ (l : List ℕ). getD l (m - 1) 0) e ∙ getD-tabulate (λ k. indexOf r (k + 1)) 0 28 (m - 1) (omega arith) ∙ ap (indexOf r) back)
+      (ap (λ (l : List ℕ). getD l (m - 1) 0) e ∙ getD-tabulate (λ k. indexOf r (k + 1)) 0 28 (m - 1) (omega arith)
+      ∙ ap (indexOf r) back)
 
+  -- so the lowest of the list is the lowest of the record
   pub as-record : {n : ℕ} → n ≡ lowest (overBy indices) 28 → n ≡ tooLarge r
   unfolding tooLarge
   as-record w = w ∙ lowest-same (overBy indices) (over r) 28 same-over
@@ -45,10 +49,12 @@ pub record Passed (indices ws : List ℕ) (i : ℕ) : Type 0 where
   pub wide : ws ≡ widths
   pub fit : NoneUpTo (overBy indices) i
 
+-- before the first turn no field is passed
 pub none-passed : (indices : List ℕ) → Passed indices widths 0
 none-passed indices = record { wide = refl; fit = none-yet (overBy indices) }
 
 module _ {indices ws : List ℕ} {i : ℕ} (s : Passed indices ws i) where
+  -- the shift of a turn is by less than sixteen bits
   pub shift-small : i < 28 → getD ws i 0 < 16
   shift-small h = rw (s .wide) (widths-small i h)
 
@@ -58,7 +64,8 @@ module _ {indices ws : List ℕ} {i : ℕ} (s : Passed indices ws i) where
 
   -- one field more whose index fits
   pub one-passed : getD indices i 0 / 2 ^ getD ws i 0 ≡ 0 → Passed indices ws (i + 1)
-  one-passed e = record { wide = s .wide; fit = fits-next (overBy indices) (getD indices i 0) (getD ws i 0) over-here (s .fit) e }
+  one-passed e =
+      record { wide = s .wide; fit = fits-next (overBy indices) (getD indices i 0) (getD ws i 0) over-here (s .fit) e }
 
   -- the lowest field whose index does not
   pub found-here : i < 28 → (getD indices i 0 / 2 ^ getD ws i 0 ≡ 0 → ⊥) → i + 1 ≡ lowest (overBy indices) 28

@@ -19,9 +19,11 @@ use Rattle.values.specs.declared.Values.{Values}
 use Rattle.values.specs.declared.Outcome.{Outcome}
 use Rattle.values.specs.declared.Outcome.the-variants.{Heard, TooLarge, Expansion}
 use Rattle.values.specs.Outcome.{outcomeOf}
-use Rattle.values.specs.Values.{inSubframes, indicesAt, cgIndex, pgIndex, gainsOf, delaysOf, previousOf, stateAfter}
+use Rattle.values.specs.Values.{inSubframes, indicesAt, cgIndex, pgIndex, gainsOf, delaysOf, previousOf}
+use Rattle.values.specs.Values.{stateAfter}
 use Rattle.values.specs.Values.{heardValues, refusedValues, valuesOf}
-use Rattle.values.proofs.Laws.{outcome-too-large, outcome-set, outcome-heard, too-large-not-heard, expansion-not-heard}
+use Rattle.values.proofs.Laws.{outcome-too-large, outcome-set, outcome-heard, too-large-not-heard}
+use Rattle.values.proofs.Laws.{expansion-not-heard}
 use Rattle.values.proofs.Laws.{values-refused, values-heard}
 
 -- the index at one place of each subframe's four, read from the sixteen
@@ -43,8 +45,10 @@ four p q r s = λ i. p i ∷ q i ∷ r i ∷ s i ∷ []
 
 -- the values of a record that is heard, put together from each step's answer
 module _ (r : Record) (before : State) where
+  -- the record of the steps' answers is the definition's
   pub heard-whole : {state : State} {cg pg : List ℤ} {delays averages previous : List ℕ} {hertz : Hertz} {mark : ℕ}
-      → cg ≡ gainsOf cgTable (inSubframes (cgIndex r)) → pg ≡ gainsOf pgTable (inSubframes (pgIndex r)) → delays ≡ delaysOf r
+      → cg ≡ gainsOf cgTable (inSubframes (cgIndex r)) → pg ≡ gainsOf pgTable (inSubframes (pgIndex r))
+      → delays ≡ delaysOf r
       → hertz ≡ hertzOf (r .lsp) → previous ≡ previousOf before (hertz .hz) → averages ≡ averagesOf previous (hertz .hz)
       → mark ≡ markOf (hertz .hz) → state ≡ stateAfter (hertz .hz)
       → _≡_ {A = Values}
@@ -65,20 +69,24 @@ module _ (r : Record) (before : State) where
       }
 
   -- what each refusal gets
-  pub field-told : {field : ℕ} {v : Values} → field ≡ tooLarge r → (field ≡ 0 → ⊥) → v ≡ refusedValues (TooLarge field) before
+  pub field-told : {field : ℕ} {v : Values} → field ≡ tooLarge r → (field ≡ 0 → ⊥)
+      → v ≡ refusedValues (TooLarge field) before
       → v ≡ valuesOf r before
   field-told {field} is w e =
       let o : outcomeOf r ≡ TooLarge (tooLarge r) = outcome-too-large r (let n = w in omega arith) in
       e ∙ ap (λ (f : ℕ). refusedValues (TooLarge f) before) is ∙ ap (λ (p : Outcome). refusedValues p before) (sym o)
       ∙ sym (values-refused r before (λ h. too-large-not-heard _ (sym o ∙ h)))
 
+  -- a record whose SP is set gets refusal 6
   pub expansion-told : {field : ℕ} {v : Values} → field ≡ tooLarge r → field ≡ 0 → (r .sp ≡ 0 → ⊥)
       → v ≡ refusedValues Expansion before → v ≡ valuesOf r before
   expansion-told is z w e =
       let o : outcomeOf r ≡ Expansion = outcome-set r (sym is ∙ z) w in
-      e ∙ ap (λ (p : Outcome). refusedValues p before) (sym o)
+      e
+      ∙ ap (λ (p : Outcome). refusedValues p before) (sym o)
       ∙ sym (values-refused r before (λ h. expansion-not-heard (sym o ∙ h)))
 
   -- and what is heard
-  pub heard-told : {field : ℕ} {v : Values} → field ≡ tooLarge r → field ≡ 0 → r .sp ≡ 0 → v ≡ heardValues r before → v ≡ valuesOf r before
+  pub heard-told : {field : ℕ} {v : Values} → field ≡ tooLarge r → field ≡ 0 → r .sp ≡ 0
+      → v ≡ heardValues r before → v ≡ valuesOf r before
   heard-told is z w e = e ∙ sym (values-heard r before (outcome-heard r (sym is ∙ z) w))

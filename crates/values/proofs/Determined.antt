@@ -14,15 +14,18 @@ use Rattle.values.proofs.values_of.Kinds as values-of
 use Rattle.values.proofs.values_of.Reads as values-of-reads
 
 pub fresh-determined : (κs : Lfts 0) (a : Dens κs fresh.ps) (r₁ r₂ : resT fresh.r κs .Denot)
-    (x₁ x₂ : AtExit (endedOf 0 fresh.ps fresh.r) κs) → fresh-reads.Post κs a r₁ x₁ → fresh-reads.Post κs a r₂ x₂ → r₁ ≡ r₂
+    (x₁ x₂ : AtExit (endedOf 0 fresh.ps fresh.r) κs) → fresh-reads.Post κs a r₁ x₁ → fresh-reads.Post κs a r₂ x₂
+    → r₁ ≡ r₂
 fresh-determined κs a r₁ r₂ x₁ x₂ p q = p ∙ sym q
 
 pub nothing-determined : (κs : Lfts 0) (a : Dens κs nothing.ps) (r₁ r₂ : resT nothing.r κs .Denot)
-    (x₁ x₂ : AtExit (endedOf 0 nothing.ps nothing.r) κs) → nothing-reads.Post κs a r₁ x₁ → nothing-reads.Post κs a r₂ x₂ → r₁ ≡ r₂
+    (x₁ x₂ : AtExit (endedOf 0 nothing.ps nothing.r) κs) → nothing-reads.Post κs a r₁ x₁ → nothing-reads.Post κs a r₂ x₂
+    → r₁ ≡ r₂
 nothing-determined κs a r₁ r₂ x₁ x₂ p q = p ∙ sym q
 
 pub values-of-determined : (κs : Lfts 0) (a : Dens κs values-of.ps) (r₁ r₂ : resT values-of.r κs .Denot)
-    (x₁ x₂ : AtExit (endedOf 0 values-of.ps values-of.r) κs) → values-of-reads.Post κs a r₁ x₁ → values-of-reads.Post κs a r₂ x₂ → r₁ ≡ r₂
+    (x₁ x₂ : AtExit (endedOf 0 values-of.ps values-of.r) κs) → values-of-reads.Post κs a r₁ x₁
+    → values-of-reads.Post κs a r₂ x₂ → r₁ ≡ r₂
 values-of-determined κs a r₁ r₂ x₁ x₂ p q = p ∙ sym q
 
 pub refusal-number-determined : (κs : Lfts 0) (a : Dens κs refusal-number.ps) (r₁ r₂ : resT refusal-number.r κs .Denot)

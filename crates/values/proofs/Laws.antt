@@ -1,4 +1,5 @@
--- What the definitions of specs/ say, for whoever cites the contracts: the outcome, the values, and the state from frame to frame.
+-- What the definitions of specs/ say, for whoever cites the contracts: the outcome, the values, and the state from
+-- frame to frame.
 -- Assumes nothing.
 use mathlib.Core.Path.{_≡_, _∙_, sym, refl, ap, subst}
 use mathlib.Core.Bool.{true, false}
@@ -35,8 +36,10 @@ use Rattle.values.specs.declared.Values.{Values}
 use Rattle.values.specs.declared.Outcome.{Outcome}
 use Rattle.values.specs.declared.Outcome.the-variants.{Heard, TooLarge, Expansion, Nothing}
 use Rattle.values.specs.Outcome.{outcomeOf, isHeard}
-use Rattle.values.specs.Values.{pdIndex, pgIndex, cgIndex, inSubframes, delaysIn, delaysOf, valueIn, presentOf, usedOf}
-use Rattle.values.specs.Values.{freshState, stateAfter, previousOf, heardValues, refusedValues, nothingHeard, valuesOf}
+use Rattle.values.specs.Values.{pdIndex, pgIndex, cgIndex, inSubframes, delaysIn, delaysOf, valueIn, presentOf}
+use Rattle.values.specs.Values.{usedOf}
+use Rattle.values.specs.Values.{freshState, stateAfter, previousOf, heardValues, refusedValues, nothingHeard}
+use Rattle.values.specs.Values.{valuesOf}
 
 -- ---- the outcome
 
@@ -44,15 +47,19 @@ use Rattle.values.specs.Values.{freshState, stateAfter, previousOf, hear
 pub too-large-not-heard : (field : ℕ) → TooLarge field ≡ Heard → ⊥
 too-large-not-heard field e = let z : _≡_ {A = ℕ} 0 1 = cc in omega arith
 
+-- refusal 6 is not heard
 pub expansion-not-heard : Expansion ≡ Heard → ⊥
 expansion-not-heard e = let z : _≡_ {A = ℕ} 0 1 = cc in omega arith
 
+-- refusal 6 is not refusal 2
 expansion-not-too-large : (field : ℕ) → Expansion ≡ TooLarge field → ⊥
 expansion-not-too-large field e = let z : _≡_ {A = ℕ} 0 1 = cc in omega arith
 
+-- no record is not one that is heard
 pub nothing-not-heard : Nothing ≡ Heard → ⊥
 nothing-not-heard e = let z : _≡_ {A = ℕ} 0 1 = cc in omega arith
 
+-- refusal 2 tells one field
 same-field : (f g : ℕ) → TooLarge f ≡ TooLarge g → f ≡ g
 same-field f g e = cc
 
@@ -67,15 +74,18 @@ module _ (r : Record) where
   unfolding outcomeOf
   outcome-set z w = rw (eq-eqb (tooLarge r) 0 z, ne-eqb (r .sp) 0 w)
 
+  -- so SP 1 is refusal 6
   pub outcome-expansion : tooLarge r ≡ 0 → r .sp ≡ 1 → outcomeOf r ≡ Expansion
   outcome-expansion z e = outcome-set z (λ o. omega arith)
 
+  -- and a record with SP 0 is heard
   pub outcome-heard : tooLarge r ≡ 0 → r .sp ≡ 0 → outcomeOf r ≡ Heard
   unfolding outcomeOf
   outcome-heard z e = rw (eq-eqb (tooLarge r) 0 z, eq-eqb (r .sp) 0 e)
 
   -- there is no fourth: an SP that fits its field is 0 or 1
-  pub by-outcome : (p : Outcome → Type 0) → (tooLarge r ≡ 0 → r .sp ≡ 0 → p Heard) → (1 ≤ tooLarge r → p (TooLarge (tooLarge r)))
+  pub by-outcome : (p : Outcome → Type 0) → (tooLarge r ≡ 0 → r .sp ≡ 0 → p Heard)
+      → (1 ≤ tooLarge r → p (TooLarge (tooLarge r)))
       → (tooLarge r ≡ 0 → r .sp ≡ 1 → p Expansion) → p (outcomeOf r)
   by-outcome p heard large expansion = field (tooLarge r) refl
     where
@@ -95,19 +105,22 @@ module _ (r : Record) where
   -- so a record is heard only when no index is too large and SP is 0
   pub heard-fits : outcomeOf r ≡ Heard → (tooLarge r ≡ 0) × (r .sp ≡ 0)
   heard-fits =
-      by-outcome (λ o. o ≡ Heard → (tooLarge r ≡ 0) × (r .sp ≡ 0)) (λ z s e. (z, s)) (λ h e. absurd (too-large-not-heard _ e))
+      by-outcome (λ o. o ≡ Heard → (tooLarge r ≡ 0) × (r .sp ≡ 0)) (λ z s e. (z, s))
+      (λ h e. absurd (too-large-not-heard _ e))
       (λ z s e. absurd (expansion-not-heard e))
 
   -- some record was there
   pub never-nothing : outcomeOf r ≡ Nothing → ⊥
   never-nothing =
-      by-outcome (λ o. o ≡ Nothing → ⊥) (λ z s e. nothing-not-heard (sym e)) (λ h e. let z : _≡_ {A = ℕ} 0 1 = cc in omega arith)
+      by-outcome (λ o. o ≡ Nothing → ⊥) (λ z s e. nothing-not-heard (sym e))
+      (λ h e. let z : _≡_ {A = ℕ} 0 1 = cc in omega arith)
       (λ z s e. let z : _≡_ {A = ℕ} 0 1 = cc in omega arith)
 
   -- a field is told only when it is the lowest with an index too large
   pub too-large-is : (f : ℕ) → outcomeOf r ≡ TooLarge f → (1 ≤ tooLarge r) × (f ≡ tooLarge r)
   too-large-is f =
-      by-outcome (λ o. o ≡ TooLarge f → (1 ≤ tooLarge r) × (f ≡ tooLarge r)) (λ z s e. absurd (too-large-not-heard f (sym e)))
+      by-outcome (λ o. o ≡ TooLarge f → (1 ≤ tooLarge r) × (f ≡ tooLarge r))
+      (λ z s e. absurd (too-large-not-heard f (sym e)))
       (λ h e. (h, sym (same-field _ _ e))) (λ z s e. absurd (expansion-not-too-large f e))
 
   -- and expansion is refused only when every index fits and SP is 1
@@ -141,6 +154,7 @@ pub nothing-state : (before : State) → nothingHeard before .state ≡ before
 unfolding nothingHeard refusedValues
 nothing-state before = refl
 
+-- where there is no record the outcome says so
 pub nothing-outcome : (before : State) → nothingHeard before .outcome ≡ Nothing
 unfolding nothingHeard refusedValues
 nothing-outcome before = refl
@@ -148,6 +162,7 @@ nothing-outcome before = refl
 -- ---- a record that is heard
 
 module _ (r : Record) (before : State) (heard : outcomeOf r ≡ Heard) where
+  -- its values are those of the definition
   pub values-heard : valuesOf r before ≡ heardValues r before
   unfolding valuesOf
   values-heard = rw heard
@@ -157,6 +172,7 @@ module _ (r : Record) (before : State) (heard : outcomeOf r ≡ Heard) where
   unfolding heardValues
   heard-cg = ap (λ (v : Values). v .cg) values-heard
 
+  -- the PG of its indices
   pub heard-pg : valuesOf r before .pg ≡ inSubframes (λ n. valueIn (gainOf pgTable (pgIndex r n)))
   unfolding heardValues
   heard-pg = ap (λ (v : Values). v .pg) values-heard
@@ -181,14 +197,17 @@ module _ (r : Record) (before : State) (heard : outcomeOf r ≡ Heard) where
   unfolding heardValues
   heard-state = ap (λ (v : Values). v .state) values-heard
 
+  -- after it a frame was heard
   pub heard-begun : valuesOf r before .state .begun ≡ true
   heard-begun = ap (λ (t : State). t .begun) heard-state
 
+  -- and its LSPs are kept
   pub heard-hz : valuesOf r before .state .hz ≡ usedOf r before
   heard-hz = ap (λ (t : State). t .hz) heard-state
 
 -- the state after depends on the LSPs used alone
-pub state-by-used : (r₁ r₂ : Record) (s₁ s₂ : State) → outcomeOf r₁ ≡ Heard → outcomeOf r₂ ≡ Heard → usedOf r₁ s₁ ≡ usedOf r₂ s₂
+pub state-by-used : (r₁ r₂ : Record) (s₁ s₂ : State) → outcomeOf r₁ ≡ Heard → outcomeOf r₂ ≡ Heard
+    → usedOf r₁ s₁ ≡ usedOf r₂ s₂
     → valuesOf r₁ s₁ .state ≡ valuesOf r₂ s₂ .state
 state-by-used r₁ r₂ s₁ s₂ h₁ h₂ e = heard-state r₁ s₁ h₁ ∙ ap stateAfter e ∙ sym (heard-state r₂ s₂ h₂)
 
@@ -207,11 +226,13 @@ previous-none before used e = rw e
 pub previous-kept : (before : State) (used : List ℕ) → before .begun ≡ true → previousOf before used ≡ before .hz
 previous-kept before used e = rw e
 
-module _ (r : Record) (before : State) (heard : outcomeOf r ≡ Heard) (n j : ℕ) (a : 1 ≤ n) (b : n ≤ 4) (c : 1 ≤ j) (d : j ≤ 10) where
+module _ (r : Record) (before : State) (heard : outcomeOf r ≡ Heard) (n j : ℕ) (a : 1 ≤ n) (b : n ≤ 4) (c : 1 ≤ j)
+    (d : j ≤ 10) where
   -- what stands for LSP j in subframe n
   abbrev averaged : ℕ
   averaged = getD (valuesOf r before .averages) (10 * (n - 1) + (j - 1)) 0
 
+  -- it is an average of what stands for the previous values
   averages-with : (previous : List ℕ) → previousOf before (usedOf r before) ≡ previous
       → averaged ≡ getD (averagesOf previous (usedOf r before)) (10 * (n - 1) + (j - 1)) 0
   averages-with previous e =
@@ -221,17 +242,19 @@ module _ (r : Record) (before : State) (heard : outcomeOf r ≡ Heard) (n j : �
   -- before the first frame it is eight times the value used
   pub first-averages : before .begun ≡ false → averaged ≡ 8 * lsp (usedOf r before) j
   first-averages e =
-      averages-with (usedOf r before) (previous-none before (usedOf r before) e) ∙ averages-same (usedOf r before) n j a b c d
+      averages-with (usedOf r before) (previous-none before (usedOf r before) e)
+      ∙ averages-same (usedOf r before) n j a b c d
 
   -- after a frame the sum of its value and the one used
   pub later-averages : before .begun ≡ true → averaged ≡ averageAt (before .hz) (usedOf r before) n j
   later-averages e =
-      averages-with (before .hz) (previous-kept before (usedOf r before) e) ∙ averages-at (before .hz) (usedOf r before) n j a b c d
+      averages-with (before .hz) (previous-kept before (usedOf r before) e)
+      ∙ averages-at (before .hz) (usedOf r before) n j a b c d
 
 -- ---- what a record that is not refused for an index has: LSPs, gains and delays of its own indices
 
 -- the bits of the ten LSPs are the widths of their fields
-bits-are-widths : (k : ℕ) → k < 10 → getD bits k 0 ≡ getD widths k 0
+pub bits-are-widths : (k : ℕ) → k < 10 → getD bits k 0 ≡ getD widths k 0
 bits-are-widths k h = eqb→eq _ _ (at 0 (λ i w. eqb w (getD widths i 0)) bits tt k h)
 
 module _ (r : Record) (fits : tooLarge r ≡ 0) where
@@ -241,6 +264,7 @@ module _ (r : Record) (fits : tooLarge r ≡ 0) where
       let h : indexOf r j < 2 ^ widthOf j = none-too-large r fits j a (omega arith) in
       rw (bits-are-widths (j - 1) (omega arith)) (rw (le-leb j 10 b) at h)
 
+  -- so none of its LSPs is refused
   pub lsps-fit : hertz.tooLarge (r .lsp) ≡ 0
   lsps-fit = all-fit (r .lsp) lsp-fits
 
@@ -255,6 +279,7 @@ module _ (r : Record) (fits : tooLarge r ≡ 0) where
       (none-too-large r fits 18 (omega arith) (omega arith)) (none-too-large r fits 22 (omega arith) (omega arith))
       (none-too-large r fits 26 (omega arith) (omega arith))
 
+  -- each PG index has an entry
   pub pg-index-small : (n : ℕ) → 1 ≤ n → n ≤ 4 → pgIndex r n < 32
   pg-index-small n a b =
       of-four (λ m. pgIndex r m < 32) n a b (none-too-large r fits 12 (omega arith) (omega arith))
@@ -278,7 +303,8 @@ module _ (r : Record) (fits : tooLarge r ≡ 0) where
   delays-meant = let e = fit-meant (pdIndex r 1) (pdIndex r 2) (pdIndex r 3) (pdIndex r 4) pd-fit in e ∙ rw e refl
 
 -- the gain of each subframe, where four gains are those of four indices that fit
-given-in : (table : List ℤ) (index : ℕ → ℕ) {gains : List ℤ} → gains ≡ inSubframes (λ n. valueIn (gainOf table (index n)))
+given-in : (table : List ℤ) (index : ℕ → ℕ) {gains : List ℤ}
+    → gains ≡ inSubframes (λ n. valueIn (gainOf table (index n)))
     → (n : ℕ) → 1 ≤ n → n ≤ 4 → index n < 32 → gainOf table (index n) ≡ Gain.Value (getD gains (n - 1) (pos 0))
 given-in table index {gains} e n a b h =
     let g = gain-value table (index n) (omega arith) in
@@ -286,16 +312,20 @@ given-in table index {gains} e n a b h =
   where
     each : valueIn (gainOf table (index n)) ≡ getD (inSubframes (λ m. valueIn (gainOf table (index m)))) (n - 1) (pos 0)
     each =
-        of-four (λ k. valueIn (gainOf table (index k)) ≡ getD (inSubframes (λ m. valueIn (gainOf table (index m)))) (k - 1) (pos 0)) n a b
+        of-four (λ k. valueIn (gainOf table (index k)) ≡ getD (inSubframes (λ m. valueIn (gainOf table (index m))))
+        (k - 1) (pos 0)) n a b
         refl refl refl refl
 
 module _ (r : Record) (before : State) (heard : outcomeOf r ≡ Heard) (n : ℕ) (a : 1 ≤ n) (b : n ≤ 4) where
   -- the gains of a record that is heard are those of its indices, none too large
   pub cg-given : gainOf cgTable (cgIndex r n) ≡ Gain.Value (getD (valuesOf r before .cg) (n - 1) (pos 0))
-  cg-given = given-in cgTable (cgIndex r) (heard-cg r before heard) n a b (cg-index-small r (heard-fits r heard .0) n a b)
+  cg-given =
+      given-in cgTable (cgIndex r) (heard-cg r before heard) n a b (cg-index-small r (heard-fits r heard .0) n a b)
 
+  -- so are the PG
   pub pg-given : gainOf pgTable (pgIndex r n) ≡ Gain.Value (getD (valuesOf r before .pg) (n - 1) (pos 0))
-  pg-given = given-in pgTable (pgIndex r) (heard-pg r before heard) n a b (pg-index-small r (heard-fits r heard .0) n a b)
+  pg-given =
+      given-in pgTable (pgIndex r) (heard-pg r before heard) n a b (pg-index-small r (heard-fits r heard .0) n a b)
 
 -- ---- heard or refused
 
@@ -323,12 +353,14 @@ module _ (r : Record) (before : State) where
   pub delays-four : length (valuesOf r before .delays) ≡ 4
   unfolding heardValues refusedValues delaysOf
   delays-four =
-      by-values (λ v. length (v .delays) ≡ 4) (λ e. four-in (meantBy (inSubframes (pdIndex r)))) (λ w. length-tabulate (λ k. 0) 4)
+      by-values (λ v. length (v .delays) ≡ 4) (λ e. four-in (meantBy (inSubframes (pdIndex r))))
+      (λ w. length-tabulate (λ k. 0) 4)
     where
       four-in : (m : Meant) → length (delaysIn m) ≡ 4
       four-in (Meant.Delays a b c d) = refl
       four-in (Meant.TooLarge n) = refl
 
+  -- none of the four is over 147 samples
   pub delays-most : (k : ℕ) → k < 4 → getD (valuesOf r before .delays) k 0 ≤ 1764
   unfolding heardValues refusedValues delaysOf meantBy
   delays-most k h =
@@ -338,7 +370,8 @@ module _ (r : Record) (before : State) where
       four : (w x y z : ℕ) → w ≤ 1764 → x ≤ 1764 → y ≤ 1764 → z ≤ 1764 → getD (w ∷ x ∷ y ∷ z ∷ []) (k + 1 - 1) 0 ≤ 1764
       four w x y z = of-four (λ n. getD (w ∷ x ∷ y ∷ z ∷ []) (n - 1) 0 ≤ 1764) (k + 1) (omega arith) (omega arith)
 
-      most-in : (m : Meant) → fourMeant (pdIndex r 1) (pdIndex r 2) (pdIndex r 3) (pdIndex r 4) ≡ m → getD (delaysIn m) k 0 ≤ 1764
+      most-in : (m : Meant) → fourMeant (pdIndex r 1) (pdIndex r 2) (pdIndex r 3) (pdIndex r 4) ≡ m
+          → getD (delaysIn m) k 0 ≤ 1764
       most-in (Meant.Delays w x y z) e =
           let p = meant-within (pdIndex r 1) (pdIndex r 2) (pdIndex r 3) (pdIndex r 4) w x y z e in
           rw (sym (add-sub-cancel k 1)) (four w x y z (p .0 .1) (p .1 .1) (p .2 .1) (p .3 .1))

@@ -15,6 +15,7 @@ outcomeOf r =
     unless (eqb (tooLarge r) 0) (TooLarge (tooLarge r))
     (unless (eqb (r .sp) 0) Expansion Heard)
 
+-- a record that has values
 abbrev pub isHeard : Outcome → Bool
 isHeard Heard = true
 isHeard (TooLarge field) = false

@@ -24,13 +24,16 @@ use Rattle.values.specs.declared.Outcome.{Outcome}
 use Rattle.values.specs.declared.Outcome.the-variants.{Heard, Nothing}
 use Rattle.values.specs.Outcome.{outcomeOf, isHeard}
 
--- the indices of subframe n: PD, PG and CG are the first, second and fourth of its four fields; the third, CI, has no value here
+-- the indices of subframe n: PD, PG and CG are the first, second and fourth of its four fields; the third, CI, has no
+-- value here
 abbrev pub pdIndex : Record → ℕ → ℕ
 pdIndex r n = indexOf r (10 + 4 * (n - 1) + 1)
 
+-- the PG index of subframe n
 abbrev pub pgIndex : Record → ℕ → ℕ
 pgIndex r n = indexOf r (10 + 4 * (n - 1) + 2)
 
+-- the CG index of subframe n
 abbrev pub cgIndex : Record → ℕ → ℕ
 cgIndex r n = indexOf r (10 + 4 * (n - 1) + 4)
 
@@ -47,6 +50,7 @@ abbrev pub valueIn : Gain → ℤ
 valueIn (Gain.Value v) = v
 valueIn Gain.TooLarge = pos 0
 
+-- four gains, one for each subframe
 abbrev pub gainsOf : List ℤ → List ℕ → List ℤ
 gainsOf table indices = inSubframes (λ n. valueIn (gainOf table (getD indices (n - 1) 0)))
 
@@ -55,6 +59,7 @@ abbrev pub delaysIn : Meant → List ℕ
 delaysIn (Meant.Delays a b c d) = a ∷ b ∷ c ∷ d ∷ []
 delaysIn (Meant.TooLarge subframe) = 0 ∷ 0 ∷ 0 ∷ 0 ∷ []
 
+-- the delays that the four PD of a record mean
 unfoldable pub delaysOf : Record → List ℕ
 delaysOf r = delaysIn (meantBy (inSubframes (pdIndex r)))
 

@@ -1,4 +1,5 @@
-// What a record says: its gains, delays, averages and order mark, from the record and the state before it, with the state after.
+// What a record says: its gains, delays, averages and order mark, from the record and the state before it, with the
+// state after.
 // A record with an index too large, or whose SP is 1, is refused, and leaves the state as it came.
 use delays::Meant;
 use gains::Gain;

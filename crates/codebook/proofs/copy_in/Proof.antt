@@ -5,7 +5,7 @@ use native.Mathlib.Omega.{arith}
 use lib.ListN.{length}
 use lib.IntN.{pos}
 use mir.Facts.{toZ-ofZ}
-use borrow.Author.Needs.{needs, sfits-of}
+use borrow.Author.Needs.{sfits-of}
 use Rattle.laws.proofs.Filled.{Copied, copied-none, copied-more, copied-all}
 use Rattle.codebook.proofs.copy_in.Statement.{statement}
 use Rattle.codebook.proofs.copy_in.Tie as tie
@@ -25,7 +25,8 @@ slice-set-from-out c = omega (arith, c .before .before .loop .inv .long)
 -- an element is read from the bits that hold it
 loop-again : tie.Need-loop-again Inv-loop μ-loop
 loop-again c =
-    copied-more (pos 0) (c .before .before .before .args .part .now) _ (c .before .before .loop .inv) (c .before .loop-test .taken) (toZ-ofZ (sfits-of (c .out .given)))
+    copied-more (pos 0) (c .before .before .before .args .part .now) _ (c .before .before .loop .inv)
+    (c .before .loop-test .taken) (toZ-ofZ (sfits-of (c .out .given)))
 
 returns : tie.Need-returns Inv-loop μ-loop
 returns c = copied-all (pos 0) (c .before .before .args .part .now) (c .before .loop .inv) (c .loop-test .left)
@@ -33,4 +34,5 @@ returns c = copied-all (pos 0) (c .before .before .args .part .now) (c .before .
 pub copy-in-spec : {M : Type 1} → statement M
 copy-in-spec =
     tie.close
-    (tie.spec Inv-loop μ-loop loop-holds (search needs) slice-set-from-out (search needs) (search needs) loop-again (search needs) returns)
+    (tie.spec Inv-loop μ-loop loop-holds (λ c. omega arith) slice-set-from-out (λ c. omega arith) (λ c. omega arith) loop-again
+    (λ c. omega arith) returns)

@@ -1,7 +1,7 @@
 -- `codebook::moved` meets its contract.
 -- Assumes nothing.
 use Rattle.codebook.proofs.Drawing.{round, down}
-use borrow.Author.Needs.{needs}
+use native.Mathlib.Omega.{arith}
 use Rattle.codebook.proofs.moved.Statement.{statement}
 use Rattle.codebook.proofs.moved.Tie as tie
 
@@ -12,4 +12,4 @@ returns-2 : tie.Need-returns-2
 returns-2 c = down (c .before .args .p) (c .if1 .left)
 
 pub moved-spec : {M : Type 1} → statement M
-moved-spec = tie.close (tie.spec (search needs) returns returns-2)
+moved-spec = tie.close (tie.spec (λ c. omega arith) returns returns-2)

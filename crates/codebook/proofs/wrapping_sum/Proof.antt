@@ -8,7 +8,8 @@ use Rattle.codebook.proofs.wrapping_sum.Tie as tie
 returns : tie.Need-returns
 returns c =
     let s = c .before .before .before .before in
-    summed (s .args .a) (s .args .b) (s .fits .a) (s .fits .b) (c .before .before .before .bits .ensures) (c .before .before .bits2 .ensures)
+    summed (s .args .a) (s .args .b) (s .fits .a) (s .fits .b) (c .before .before .before .bits .ensures)
+    (c .before .before .bits2 .ensures)
     (c .before .wrapping-add-u16 .ensures) (c .signed .ensures)
 
 pub wrapping-sum-spec : {M : Type 1} → statement M

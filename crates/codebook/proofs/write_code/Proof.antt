@@ -23,5 +23,5 @@ returns-3 c =
 pub write-code-spec : {M : Type 1} → statement M
 write-code-spec =
     tie.close
-    (tie.spec returns returns-2 (λ c. omega arith) (λ c. omega arith) (λ c. omega arith) (λ c. omega arith) (λ c. omega arith) (λ c. omega arith)
-    (λ c. omega arith) (λ c. omega arith) returns-3)
+    (tie.spec returns returns-2 (λ c. omega arith) (λ c. omega arith) (λ c. omega arith) (λ c. omega arith)
+    (λ c. omega arith) (λ c. omega arith) (λ c. omega arith) (λ c. omega arith) returns-3)

@@ -1,6 +1,6 @@
 -- `delays::both_inside` meets its contract: the entries of the list of printed bytes.
 -- Assumes nothing.
-use borrow.Author.Needs.{needs}
+use native.Mathlib.Omega.{arith}
 use mir.Facts.{fits-lt, fits-lit}
 use Rattle.delays.proofs.Pairs.{byte-read-below, four-codes}
 use Rattle.delays.proofs.both_inside.Statement.{statement}
@@ -22,4 +22,4 @@ returns : tie.Need-returns
 returns c = four-codes (c .bytes-by-rank .ensures) _ _ _ _
 
 pub both-inside-spec : {M : Type 1} → statement M
-both-inside-spec = tie.close (tie.spec (λ c κs. search needs) array-read-a array-read-c cast-t15 cast-t17 returns)
+both-inside-spec = tie.close (tie.spec (λ c κs. omega arith) array-read-a array-read-c cast-t15 cast-t17 returns)

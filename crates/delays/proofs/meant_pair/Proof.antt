@@ -21,7 +21,8 @@ cast-t8 : tie.Need-cast-t8
 cast-t8 c = fits-lt (rank-read-below (c .before .before .pre .0) _ (c .before .before .pre .1 .1 .0)) (fits-lit tt)
 
 mul-t13 : tie.Need-mul-t13
-mul-t13 c = scaled-fits _ 256 2 (rank-read-below (c .before .before .pre .0) _ (c .before .before .pre .1 .1 .0)) (lit< tt)
+mul-t13 c =
+    scaled-fits _ 256 2 (rank-read-below (c .before .before .pre .0) _ (c .before .before .pre .1 .1 .0)) (lit< tt)
 
 element-copy-out-t12 : tie.Need-element-copy-out-t12
 element-copy-out-t12 c = rank-read-below (c .before .before .pre .0) _ (c .before .before .pre .1 .1 .0)
@@ -30,7 +31,8 @@ cast-t16 : tie.Need-cast-t16
 cast-t16 c = fits-lt (next-below _ _ (c .before .before .before .pre .1 .1 .1) (c .before .base .ensures)) (fits-lit tt)
 
 mul-t17 : tie.Need-mul-t17
-mul-t17 c = scaled-fits _ 256 2 (next-below _ _ (c .before .before .before .pre .1 .1 .1) (c .before .base .ensures)) (lit< tt)
+mul-t17 c =
+    scaled-fits _ 256 2 (next-below _ _ (c .before .before .before .pre .1 .1 .1) (c .before .base .ensures)) (lit< tt)
 
 element-copy-out-t20 : tie.Need-element-copy-out-t20
 element-copy-out-t20 c = next-below _ _ (c .before .before .before .pre .1 .1 .1) (c .before .base .ensures)
@@ -43,5 +45,5 @@ returns c =
 pub meant-pair-spec : {M : Type 1} → statement M
 meant-pair-spec =
     tie.close
-    (tie.spec element-copy-out-rank cast-base (λ c κs. omega arith) add-next cast-t8 mul-t13 element-copy-out-t12 cast-t16 mul-t17
-    element-copy-out-t20 returns)
+    (tie.spec element-copy-out-rank cast-base (λ c κs. omega arith) add-next cast-t8 mul-t13 element-copy-out-t12
+    cast-t16 mul-t17 element-copy-out-t20 returns)

@@ -1,7 +1,9 @@
--- `delays::rank_with` meets its contract, a stretch at a time: a delay that goes evenly into its stretch, and one that does not.
+-- `delays::rank_with` meets its contract, a stretch at a time: a delay that goes evenly into its stretch, and one that
+-- does not.
 -- Assumes nothing.
-use borrow.Author.Needs.{needs}
-use Rattle.delays.proofs.Search.{too-short, first-thirds, no-first-third, quarters, no-quarter, second-thirds, no-second-third, wholes, no-whole, too-long}
+use native.Mathlib.Omega.{arith}
+use Rattle.delays.proofs.Search.{too-short, first-thirds, no-first-third, quarters, no-quarter, second-thirds}
+use Rattle.delays.proofs.Search.{no-second-third, wholes, no-whole, too-long}
 use Rattle.delays.proofs.rank_with.Statement.{statement}
 use Rattle.delays.proofs.rank_with.Tie as tie
 
@@ -38,5 +40,5 @@ returns-10 c = too-long (c .if8 .left)
 pub rank-with-spec : {M : Type 1} → statement M
 rank-with-spec =
     tie.close
-    (tie.spec returns (search needs) returns-2 returns-3 (search needs) (search needs) returns-4 returns-5 (search needs) (search needs) returns-6
-    returns-7 (search needs) (search needs) returns-8 returns-9 returns-10)
+    (tie.spec returns (λ c. omega arith) returns-2 returns-3 (λ c. omega arith) (λ c. omega arith) returns-4 returns-5
+    (λ c. omega arith) (λ c. omega arith) returns-6 returns-7 (λ c. omega arith) (λ c. omega arith) returns-8 returns-9 returns-10)

@@ -3,7 +3,7 @@
 use mathlib.Core.Path.{_∙_, sym, ap}
 use Prim.Native.Nat.{_<_, _≤_}
 use native.Mathlib.Omega.{arith}
-use borrow.Author.Needs.{needs, sfits-of}
+use borrow.Author.Needs.{sfits-of}
 use lib.IntN.{pos}
 use lib.ListN.{getD}
 use mir.Syntax.{w16}
@@ -31,4 +31,4 @@ returns-2 c =
     ap Value (cast-is _ (sfits-of (c .entry .given)) tt) ∙ sym (gain-value _ _ h)
 
 pub gain-at-spec : {M : Type 1} → statement M
-gain-at-spec = tie.close (tie.spec returns (search needs) (search needs) cast-gain returns-2)
+gain-at-spec = tie.close (tie.spec returns (λ c. omega arith) (λ c. omega arith) cast-gain returns-2)

@@ -1,5 +1,5 @@
--- `gains::nearest` meets its contract. The loop's invariant: of the entries passed, from `i` on, the one at `best` is the nearest and
--- `near` away, and the lowest such. Each turn is one of `Down`.
+-- `gains::nearest` meets its contract. The loop's invariant: of the entries passed, from `i` on, the one at `best` is
+-- the nearest and `near` away, and the lowest such. Each turn is one of `Down`.
 -- Assumes nothing.
 use native.Mathlib.Omega.{arith}
 use borrow.Author.Needs.{sfits-of}
@@ -36,6 +36,6 @@ returns c = come-down _ (c .before .before .before .before .fits .x) (c .loop-te
 pub nearest-spec : {M : Type 1} → statement M
 nearest-spec =
     tie.close
-    (tie.spec Inv-loop μ-loop (λ c. omega arith) (λ c. omega arith) (λ c. omega arith) (λ c. omega arith) loop-holds (λ c. omega arith)
-    (λ c. omega arith) (λ c. omega arith) (λ c. omega arith) (λ c. omega arith) loop-again (λ c. omega arith) loop-again-2 (λ c. omega arith)
-    returns)
+    (tie.spec Inv-loop μ-loop (λ c. omega arith) (λ c. omega arith) (λ c. omega arith) (λ c. omega arith) loop-holds
+    (λ c. omega arith) (λ c. omega arith) (λ c. omega arith) (λ c. omega arith) (λ c. omega arith) loop-again
+    (λ c. omega arith) loop-again-2 (λ c. omega arith) returns)

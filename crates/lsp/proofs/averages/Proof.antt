@@ -36,9 +36,11 @@ returns c = all-averaged _ _ (c .before .loop .inv) (c .loop-test .left)
 pub averages-spec : {M : Type 1} → statement M
 averages-spec =
     tie.close
-    (tie.spec Inv-loop μ-loop loop-holds (λ c. omega arith) (λ c. omega arith) (λ c. omega (arith, values c)) (λ c. omega arith)
-    (λ c. omega arith) (λ c. omega (arith, values c)) (λ c. omega (arith, values c)) (λ c. omega (arith, values c)) (λ c. omega arith)
-    (λ c. omega arith) (λ c. omega (arith, values c)) (λ c. omega (arith, values c)) (λ c. omega (arith, values c)) (λ c. omega arith)
-    (λ c. omega arith) (λ c. omega arith) (λ c. omega (arith, values c)) (λ c. omega (arith, values c)) (λ c. omega (arith, values c))
-    (λ c. omega arith) (λ c. omega arith) (λ c. omega arith) (λ c. omega (arith, values c)) (λ c. omega (arith, values c))
-    (λ c. omega arith) (λ c. omega arith) (λ c. omega arith) (λ c. omega arith) (λ c. omega arith) loop-again returns)
+    (tie.spec Inv-loop μ-loop loop-holds (λ c. omega arith) (λ c. omega arith) (λ c. omega (arith, values c))
+    (λ c. omega arith) (λ c. omega arith) (λ c. omega (arith, values c)) (λ c. omega (arith, values c))
+    (λ c. omega (arith, values c)) (λ c. omega arith) (λ c. omega arith) (λ c. omega (arith, values c))
+    (λ c. omega (arith, values c)) (λ c. omega (arith, values c)) (λ c. omega arith) (λ c. omega arith)
+    (λ c. omega arith) (λ c. omega (arith, values c)) (λ c. omega (arith, values c)) (λ c. omega (arith, values c))
+    (λ c. omega arith) (λ c. omega arith) (λ c. omega arith) (λ c. omega (arith, values c))
+    (λ c. omega (arith, values c)) (λ c. omega arith) (λ c. omega arith) (λ c. omega arith) (λ c. omega arith)
+    (λ c. omega arith) loop-again returns)

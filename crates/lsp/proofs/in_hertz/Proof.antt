@@ -1,5 +1,5 @@
--- `lsp::in_hertz` meets its contract. The loop's invariant: the table and the bits are as printed, the indices passed fit, and the
--- places passed hold Hz.
+-- `lsp::in_hertz` meets its contract. The loop's invariant: the table and the bits are as printed, the indices passed
+-- fit, and the places passed hold Hz.
 -- Assumes nothing.
 use Prim.Native.Nat.{_-_, _<_}
 use native.Mathlib.Omega.{arith}
@@ -42,7 +42,7 @@ returns-2 c = all-looked (c .before .loop .inv) (c .loop-test .left)
 pub in-hertz-spec : {M : Type 1} → statement M
 in-hertz-spec =
     tie.close
-    (tie.spec Inv-loop μ-loop loop-holds (λ c. omega arith) (λ c. omega arith) (λ c. omega arith) (λ c. omega arith) shr-if1
-    (λ c. omega arith) returns (λ c. omega (arith, row c)) (λ c. omega (arith, row c)) (λ c. omega (arith, row c))
-    (λ c. omega (arith, row c)) (λ c. omega arith) (λ c. omega arith) (λ c. omega arith) (λ c. omega arith) (λ c. omega arith) loop-again
-    returns-2)
+    (tie.spec Inv-loop μ-loop loop-holds (λ c. omega arith) (λ c. omega arith) (λ c. omega arith) (λ c. omega arith)
+    shr-if1 (λ c. omega arith) returns (λ c. omega (arith, row c)) (λ c. omega (arith, row c))
+    (λ c. omega (arith, row c)) (λ c. omega (arith, row c)) (λ c. omega arith) (λ c. omega arith) (λ c. omega arith)
+    (λ c. omega arith) (λ c. omega arith) loop-again returns-2)

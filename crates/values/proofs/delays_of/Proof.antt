@@ -21,4 +21,5 @@ returns-2 c =
     ap delaysIn (sym (c .enum-told .given .1) ∙ s .meaning .ensures ∙ ap meantBy (s .before .in-subframes .ensures))
 
 pub delays-of-spec : {M : Type 1} → statement M
-delays-of-spec = tie.close (tie.spec (λ c κs. omega arith) (λ c κs. omega arith) (search needs) (search needs) returns returns-2)
+delays-of-spec =
+    tie.close (tie.spec (λ c κs. omega arith) (λ c κs. omega arith) (search needs) (search needs) returns returns-2)

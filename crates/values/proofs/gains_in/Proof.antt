@@ -14,11 +14,12 @@ returns c =
     let b = c .before .before .gain-in2 in
     let d = c .before .gain-in3 in
     let e = c .gain-in4 in
-    four (toZ-ofZ (sfits-of (a .ok)) ∙ a .ensures) (toZ-ofZ (sfits-of (b .ok)) ∙ b .ensures) (toZ-ofZ (sfits-of (d .ok)) ∙ d .ensures)
+    four (toZ-ofZ (sfits-of (a .ok)) ∙ a .ensures) (toZ-ofZ (sfits-of (b .ok)) ∙ b .ensures)
+    (toZ-ofZ (sfits-of (d .ok)) ∙ d .ensures)
     (toZ-ofZ (sfits-of (e .ok)) ∙ e .ensures)
 
 pub gains-in-spec : {M : Type 1} → statement M
 gains-in-spec =
     tie.close
-    (tie.spec (λ c. omega arith) (λ c κs. omega arith) (λ c. omega arith) (λ c κs. omega arith) (λ c. omega arith) (λ c κs. omega arith)
-    (λ c. omega arith) (λ c κs. omega arith) returns)
+    (tie.spec (λ c. omega arith) (λ c κs. omega arith) (λ c. omega arith) (λ c κs. omega arith) (λ c. omega arith)
+    (λ c κs. omega arith) (λ c. omega arith) (λ c κs. omega arith) returns)

@@ -16,7 +16,8 @@ returns c =
     let pg = delayed .before in
     let cg = pg .before .before .before in
     let start = cg .before .before .before in
-    heard-whole (start .args .r) (start .args .before) (cg .gains-in .ensures ∙ ap (gainsOf cgTable) (cg .before .in-subframes .ensures))
+    heard-whole (start .args .r) (start .args .before)
+    (cg .gains-in .ensures ∙ ap (gainsOf cgTable) (cg .before .in-subframes .ensures))
     (pg .gains-in2 .ensures ∙ ap (gainsOf pgTable) (pg .before .in-subframes2 .ensures)) (delayed .delays-of .ensures)
     (hertz .in-hertz .ensures) (c .before .before .before .previous .ensures) (c .before .before .averages .ensures)
     (c .before .order-mark .ensures) (c .after .ensures)
@@ -24,5 +25,6 @@ returns c =
 pub heard-values-spec : {M : Type 1} → statement M
 heard-values-spec =
     tie.close
-    (tie.spec (λ c κs. omega arith) (λ c κs. omega arith) (λ c κs. omega arith) (λ c κs. omega arith) (λ c κs. omega arith)
-    (λ c κs. omega arith) (λ c κs. omega arith) (λ c κs. omega arith) (λ c κs. omega arith) (λ c κs. omega arith) returns)
+    (tie.spec (λ c κs. omega arith) (λ c κs. omega arith) (λ c κs. omega arith) (λ c κs. omega arith)
+    (λ c κs. omega arith) (λ c κs. omega arith) (λ c κs. omega arith) (λ c κs. omega arith) (λ c κs. omega arith)
+    (λ c κs. omega arith) returns)

@@ -8,23 +8,27 @@ use Rattle.values.proofs.values_of.Tie as tie
 returns : tie.Need-returns
 returns c =
     let s = c .before .before in
-    field-told (s .before .args .r) (s .before .args .before) (s .too-large .ensures) (c .before .if1 .taken) (c .refused-values .ensures)
+    field-told (s .before .args .r) (s .before .args .before) (s .too-large .ensures) (c .before .if1 .taken)
+    (c .refused-values .ensures)
 
 returns-2 : tie.Need-returns-2
 returns-2 c =
     let one = c .before .before .before in
     let s = one .before in
-    expansion-told (s .before .args .r) (s .before .args .before) (s .too-large .ensures) (one .if1 .left) (c .before .if2 .taken)
+    expansion-told (s .before .args .r) (s .before .args .before) (s .too-large .ensures) (one .if1 .left)
+    (c .before .if2 .taken)
     (c .refused-values2 .ensures)
 
 returns-3 : tie.Need-returns-3
 returns-3 c =
     let one = c .before .before .before in
     let s = one .before in
-    heard-told (s .before .args .r) (s .before .args .before) (s .too-large .ensures) (one .if1 .left) (c .before .if2 .left)
+    heard-told (s .before .args .r) (s .before .args .before) (s .too-large .ensures) (one .if1 .left)
+    (c .before .if2 .left)
     (c .heard-values .ensures)
 
 pub values-of-spec : {M : Type 1} → statement M
 values-of-spec =
     tie.close
-    (tie.spec (λ c κs. omega arith) (λ c κs. omega arith) returns (λ c κs. omega arith) returns-2 (λ c κs. omega arith) returns-3)
+    (tie.spec (λ c κs. omega arith) (λ c κs. omega arith) returns (λ c κs. omega arith) returns-2 (λ c κs. omega arith)
+    returns-3)
