@@ -1,13 +1,16 @@
 #!/usr/bin/env python3
-"""Holds the listing program to the independent one.
+"""Holds a listing program to the independent one, and a hearing program beside it, over many recordings, sound and damaged.
 
-    listings.py OUTSIDE N SEED LIST..
+    listings.py OUTSIDE COUNT SEED LIST [HEAR]
 
-OUTSIDE writes N recordings with their listings, sound and damaged, the named edges first. LIST, one or more words, is run on each, from a file;
-on some also from a pipe in small pieces. Whatever it prints has to be the listing, byte for byte, and nothing may stand on
-standard error. The last line is `compared N cases, M differ`; the exit is 1 if any differ or none was compared.
+OUTSIDE is the independent program, which writes the recordings with what is to be printed of each. LIST and HEAR are commands, each
+one word of the shell's (as './run target/bin/list'). Each recording is read from a file, and some small ones come through a pipe in
+pieces. A program has to print what is expected, say nothing on standard error and end with status 0. Then each is run with an argument,
+and on an input that cannot be read: it prints nothing and says one line. The last line says how many cases were compared.
 """
 
+import os
+import shlex
 import subprocess
 import sys
 import tempfile
@@ -23,32 +26,67 @@ def in_pieces(program, data, size):
             process.stdin.flush()
     except BrokenPipeError:
         pass
-    return process.communicate()
+    printed, said = process.communicate()
+    return process.returncode, printed, said
 
 
-def main(outside, count, seed, *program):
-    compared, differ, refused = 0, 0, 0
-    with tempfile.TemporaryDirectory() as folder:
+def from_file(program, file):
+    run = subprocess.run(program, stdin=file, capture_output=True, check=False)
+    return run.returncode, run.stdout, run.stderr
+
+
+class Compared:
+    def __init__(self):
+        self.cases, self.differ = 0, 0
+
+    def hold(self, name, answer, expected):
+        """Holds a status, what was printed and what was said to what is expected."""
+        self.cases += 1
+        if answer != expected:
+            self.differ += 1
+            print(f"{name}: status {answer[0]}, {answer[1][:120]!r}, not {expected[1][:120]!r}; standard error {answer[2][:120]!r}")
+
+
+def compare(compared, folder, program, suffix):
+    """Runs a program over the recordings that have a file with this suffix."""
+    for n, path in enumerate(sorted(folder.glob("*.rec"))):
+        wanted = path.with_suffix(suffix)
+        if not wanted.exists():
+            continue
+        expected = (0, wanted.read_bytes(), b"")
+        with path.open("rb") as recording:
+            compared.hold(f"{path.name} {suffix} from a file", from_file(program, recording), expected)
+        if n % 10 == 0 and path.stat().st_size < 3000:
+            compared.hold(f"{path.name} {suffix} in pieces", in_pieces(program, path.read_bytes(), 1 + n % 7), expected)
+
+
+def strange(compared, folder, program, name):
+    """An argument, and an input that cannot be read."""
+    with (folder / "00000.rec").open("rb") as recording:
+        usage = f"usage: oatlantern-{name} <recording\n".encode()
+        compared.hold(f"{name} with an argument", from_file([*program, "FILE"], recording), (0, b"", usage))
+    directory = os.open(folder, os.O_RDONLY)
+    unread = f"oatlantern-{name}: standard input cannot be read\n".encode()
+    compared.hold(f"{name} on a directory", from_file(program, directory), (0, b"", unread))
+    os.close(directory)
+
+
+def main(outside, count, seed, *programs):
+    compared = Compared()
+    with tempfile.TemporaryDirectory() as name:
+        folder = Path(name)
         subprocess.run([outside, "recordings", folder, count, seed], check=True)
-        for n, path in enumerate(sorted(Path(folder).glob("*.rec"))):
-            expected = path.with_suffix(".list").read_bytes()
-            refused += expected.startswith(b"refused")
-            with path.open("rb") as recording:
-                run = subprocess.run(program, stdin=recording, capture_output=True, check=False)
-            answers = [(run.stdout, run.stderr, "from a file")]
-            if n % 10 == 0 and path.stat().st_size < 3000:
-                answers.append((*in_pieces(program, path.read_bytes(), 1 + n % 7), "in pieces"))
-            for printed, said, how in answers:
-                compared += 1
-                if printed != expected or said:
-                    differ += 1
-                    print(f"{path.name} {how}: {printed[:120]!r}, not {expected[:120]!r}; standard error {said[:120]!r}")
+        for (word, suffix), program in zip([("list", ".list"), ("hear", ".hear")], programs):
+            program = shlex.split(program)
+            compare(compared, folder, program, suffix)
+            strange(compared, folder, program, word)
+        refused = sum(path.read_bytes().startswith(b"refused") for path in folder.glob("*.list"))
     print(f"{refused} of the recordings are refused")
-    print(f"compared {compared} cases, {differ} differ")
-    return 1 if differ or not compared else 0
+    print(f"compared {compared.cases} cases, {compared.differ} differ")
+    return 1 if compared.differ or compared.cases < int(count) else 0
 
 
 if __name__ == "__main__":
-    if len(sys.argv) < 5:
+    if not 5 <= len(sys.argv) <= 6:
         sys.exit(__doc__)
     sys.exit(main(*sys.argv[1:]))

@@ -1,8 +1,8 @@
-//! All that a recording holds, in one text: every frame with its reading and its values under
-//! the running state, then the voice blocks. The layout is set out in CASES.md.
+//! All that a recording holds, in one text: its head, every frame with its reading and its values
+//! under the running state, the voice blocks and the counts. The layout is set out in CASES.md.
 
 use crate::listing;
-use crate::recording::{self, Heard};
+use crate::recording::{self, Counts, Heard};
 use crate::text::{number, numbers};
 
 /// Hears any bytes as a recording.
@@ -12,8 +12,11 @@ pub fn hear(recording: &[u8]) -> Vec<u8> {
         Err(refusal) => return listing::refused(refusal),
     };
     let mut out = Vec::with_capacity(512 * (1 + sound.frames as usize));
-    for (k, heard) in (1..).zip(sound.heard()) {
-        frame(&mut out, k, &heard);
+    listing::head(&mut out, &sound);
+    let mut counts = Counts::default();
+    for heard in sound.heard() {
+        counts.count(&heard.reading);
+        frame(&mut out, counts.frames, &heard);
     }
     let mut blocks = 0;
     for (at, payload) in sound.voice_blocks() {
@@ -21,6 +24,7 @@ pub fn hear(recording: &[u8]) -> Vec<u8> {
         blocks += 1;
     }
     block(&mut out, blocks, 0, 0);
+    listing::last(&mut out, &counts);
     out
 }
 
@@ -88,6 +92,7 @@ mod tests {
         let values =
             " gains -1330 -993 -1330 -993 -1330 -993 -1330 -993 delays 656 532 656 532 averages";
         let expected = [
+            "unit 1 recording 1 frames 3\n".to_string(),
             format!("frame 1{} 1 0 number 0 mark 0 refused 6\n", zeros(26)),
             format!("frame 2{} number 0 mark 0{values}", zeros(28)),
             format!(" 800{eighths}").repeat(4),
@@ -98,6 +103,7 @@ mod tests {
                 .concat(),
             format!(" state 170{hz}\n"),
             "block 0 20 18\nblock 1 44 36\nblock 2 0 0\n".to_string(),
+            "repaired 0 breaks 2\n".to_string(),
         ];
         assert_eq!(
             String::from_utf8(hear(&recording)).unwrap(),

@@ -6,12 +6,14 @@ pub mod cases;
 pub mod codes;
 pub mod delays;
 pub mod draws;
+pub mod exchange;
 pub mod frame;
 pub mod gains;
 pub mod hear;
+pub mod leaves;
 pub mod listing;
 pub mod lsp;
-pub mod numbers;
+
 pub mod recording;
 pub mod refusal;
 pub mod tables;

@@ -2,7 +2,7 @@
 //! or the one line of its refusal.
 
 use crate::delays;
-use crate::recording::{self, Counts, LONGEST};
+use crate::recording::{self, Counts, Recording, LONGEST};
 use crate::refusal::Refusal;
 use crate::text::{number, numbers};
 
@@ -13,13 +13,7 @@ pub fn list(recording: &[u8]) -> Vec<u8> {
         Err(refusal) => return refused(refusal),
     };
     let mut out = Vec::with_capacity(96 + 40 * sound.frames as usize);
-    out.extend_from_slice(b"unit ");
-    number(&mut out, sound.unit.into());
-    out.extend_from_slice(b" recording ");
-    number(&mut out, sound.number.into());
-    out.extend_from_slice(b" frames ");
-    number(&mut out, sound.frames.into());
-    out.push(b'\n');
+    head(&mut out, &sound);
 
     let mut counts = Counts::default();
     for reading in sound.readings() {
@@ -35,12 +29,28 @@ pub fn list(recording: &[u8]) -> Vec<u8> {
         out.push(b'\n');
     }
 
-    out.extend_from_slice(b"repaired ");
-    number(&mut out, counts.repaired.into());
-    out.extend_from_slice(b" breaks ");
-    number(&mut out, counts.breaks.into());
-    out.push(b'\n');
+    last(&mut out, &counts);
     out
+}
+
+/// The first line: unit, recording number and frames.
+pub fn head(out: &mut Vec<u8>, sound: &Recording) {
+    out.extend_from_slice(b"unit ");
+    number(out, sound.unit.into());
+    out.extend_from_slice(b" recording ");
+    number(out, sound.number.into());
+    out.extend_from_slice(b" frames ");
+    number(out, sound.frames.into());
+    out.push(b'\n');
+}
+
+/// The last line: repaired frames and sync breaks.
+pub fn last(out: &mut Vec<u8>, counts: &Counts) {
+    out.extend_from_slice(b"repaired ");
+    number(out, counts.repaired.into());
+    out.extend_from_slice(b" breaks ");
+    number(out, counts.breaks.into());
+    out.push(b'\n');
 }
 
 /// The line of a refused recording: `refused N at P`, with P 65536 for refusal 1.

@@ -1,13 +1,13 @@
 //! The command line over the library: tables, numbers, listings, hearings and cases.
 
-use outside::{cases, hear, listing, numbers, recording, tables};
+use outside::{cases, exchange, hear, leaves, listing, recording, tables};
 use std::fs;
 use std::io::{self, Read, Write};
 use std::path::Path;
 use std::process::ExitCode;
 
 const USAGE: &str =
-    "usage: outside tables | numbers | sample | list | hear | recordings DIR N SEED";
+    "usage: outside tables | sample | list | hear | recording SEED N | recordings DIR N SEED | leaves | leaf-cases [KIND MORE SEED] | windows DIR | exchange | exchange-cases";
 
 /// Recordings longer than this get no `.hear` file.
 const LONGEST_HEARD: usize = 20_000;
@@ -17,10 +17,22 @@ fn main() -> ExitCode {
     let words: Vec<&str> = arguments.iter().map(String::as_str).collect();
     let done = match words[..] {
         ["tables"] => print(&tables::text()),
-        ["numbers"] => print(numbers::text().as_bytes()),
+        ["leaves"] => input().and_then(|cases| print(leaves::answers(&cases).as_bytes())),
+        ["leaf-cases"] => print(&leaves::cases()),
+        ["leaf-cases", kind, more, seed] => match (kind.as_bytes(), more.parse(), seed.parse()) {
+            (&[kind], Ok(more), Ok(seed)) => print(&leaves::many(kind, more, seed)),
+            _ => return usage(),
+        },
+        ["exchange"] => all_input().and_then(|cases| print(&exchange::answers(&cases))),
+        ["exchange-cases"] => print(&exchange::cases()),
+        ["windows", folder] => windows(Path::new(folder)),
         ["sample"] => print(&cases::sample()),
         ["list"] => input().and_then(|recording| print(&listing::list(&recording))),
         ["hear"] => input().and_then(|recording| print(&hear::hear(&recording))),
+        ["recording", seed, n] => match (seed.parse(), n.parse()) {
+            (Ok(seed), Ok(n)) => print(&cases::recording(seed, n)),
+            _ => return usage(),
+        },
         ["recordings", folder, count, seed] => match (count.parse(), seed.parse()) {
             (Ok(count), Ok(seed)) => recordings(Path::new(folder), count, seed),
             _ => return usage(),
@@ -55,6 +67,22 @@ fn input() -> io::Result<Vec<u8>> {
         .take(recording::LONGEST as u64 + 1)
         .read_to_end(&mut bytes)?;
     Ok(bytes)
+}
+
+/// All of standard input.
+fn all_input() -> io::Result<Vec<u8>> {
+    let mut bytes = Vec::new();
+    io::stdin().lock().read_to_end(&mut bytes)?;
+    Ok(bytes)
+}
+
+/// Writes the cases of every window.
+fn windows(folder: &Path) -> io::Result<()> {
+    fs::create_dir_all(folder)?;
+    for (n, cases) in leaves::windows().iter().enumerate() {
+        fs::write(folder.join(format!("{n}.cases")), cases)?;
+    }
+    Ok(())
 }
 
 /// Writes recordings with their listings and what is heard in them: the edges first.

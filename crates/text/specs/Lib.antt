@@ -1,3 +1,4 @@
 pub mod Ascii
 pub mod Decimal
 pub mod Laid
+pub mod Signed

@@ -6,6 +6,7 @@ ghost use Prim.Native.Nat.{min};
 ghost use lib.ListN.{length};
 ghost use Rattle.text.specs.Laid.{laid, after};
 ghost use Rattle.text.specs.Decimal.{decimal};
+ghost use Rattle.text.specs.Signed.{signedDecimal, raisedOf};
 
 // Lays one byte.
 pub fn put_byte(out: &mut [u8], at: usize, b: u8) -> usize
@@ -62,6 +63,30 @@ pub fn put_number(out: &mut [u8], at: usize, n: u64) -> usize
         rest /= 10;
     }
     at + kept
+}
+
+// Lays a signed number in decimal, with a minus before one below 0.
+pub fn put_signed(out: &mut [u8], at: usize, x: i32) -> usize
+    ensures { λ r. ⌜ r ≡ after (now (out .entry)) at (signedDecimal x) ⌝ }
+    ensures { λ _. ⌜ now (out .exit) ≡ laid (now (out .entry)) at (signedDecimal x) ⌝ }
+{
+    let up = raised(x);
+    if up < 2147483648 {
+        let next = put_byte(out, at, b'-');
+        let size = 2147483648 - up;
+        return put_number(out, next, size);
+    }
+    let size = up - 2147483648;
+    put_number(out, at, size)
+}
+
+// How far a signed number is above the least one.
+fn raised(x: i32) -> u64
+    ensures { λ r. ⌜ r ≡ raisedOf x ⌝ }
+{
+    let wide = x as i64;
+    let up = wide + 2147483648;
+    up as u64
 }
 
 // How many digits a number has.

@@ -1,0 +1,122 @@
+// The functions of recordings and values at places that no recording leads to.
+use crate::say;
+use blocks::Found;
+use record::Record;
+use recording::Counts;
+use recording::Pass;
+use values::Outcome;
+use values::State;
+use values::Values;
+
+// Frame k of a recording: its correction number, and its values.
+pub fn frame(s: &[u8], k: usize) {
+    let hearing = recording::frame_heard(s, k);
+    let reading = hearing.reading;
+    say::number(reading.correction_number());
+    heard(hearing.values);
+}
+
+// The outcome, the mark, the delays and the state after.
+fn heard(values: Values) {
+    let outcome = values.outcome;
+    let delays = values.delays;
+    told(outcome);
+    say::number(values.mark);
+    say::shorts(&delays);
+    kept(values.state);
+}
+
+// The outcome's number and what it tells.
+fn told(outcome: Outcome) {
+    match outcome {
+        Outcome::Heard => say::number(0),
+        Outcome::Nothing => say::number(1),
+        Outcome::TooLarge(field) => {
+            say::number(2);
+            say::number(field);
+        }
+        Outcome::Expansion => say::number(6),
+    }
+}
+
+// What a state keeps.
+fn kept(state: State) {
+    let hz = state.hz;
+    if state.begun {
+        say::number(1);
+    }
+    say::shorts(&hz);
+}
+
+// The next frame from any place, with any number of bytes left: its first byte and how many come after it, or nothing.
+pub fn find(s: &[u8], n: usize) {
+    match blocks::find(s, n % 256, n / 256) {
+        Found::Nothing => {}
+        Found::At(first, rest) => {
+            say::number(first);
+            say::number(rest);
+        }
+    }
+}
+
+// The next frame of any pass: where the pass is then, and its counts.
+pub fn next(s: &[u8], n: usize) {
+    let state = State::fresh();
+    let counts = Counts {
+        repaired: 3,
+        breaks: 5,
+    };
+    let pass = Pass {
+        at: n % 256,
+        left: n / 256 % 32,
+        frames: (n / 8192 % 8 * 11001) as u32,
+        counts,
+        state,
+    };
+    let step = recording::next(s, pass);
+    let after = step.pass;
+    passed(after);
+}
+
+fn passed(pass: Pass) {
+    let counts = pass.counts;
+    say::number(pass.at);
+    say::number(pass.left);
+    say::number(pass.frames as usize);
+    say::number(counts.repaired as usize);
+    say::number(counts.breaks as usize);
+}
+
+// The values of a frame's record with one index or more set to the number, by the length of what is given, after the state that the
+// record itself leaves.
+pub fn values(s: &[u8], n: usize) {
+    let reading = frame::read(s);
+    let indices = reading.indices;
+    let first = values::values_of(indices, State::fresh());
+    let second = values::values_of(altered(indices, n), first.state);
+    heard(second);
+}
+
+// A record with an index changed: n / 8 for the index that n % 8 names.
+fn altered(r: Record, n: usize) -> Record {
+    let x = (n / 8 % 8192) as u16;
+    let which = n % 8;
+    let mut lsp = r.lsp;
+    let mut subframes = r.subframes;
+    let mut sp = r.sp;
+    if which == 1 {
+        lsp[9] = x;
+    }
+    if which == 2 {
+        subframes[4] = x;
+    }
+    if which == 3 {
+        sp = x;
+    }
+    Record {
+        lsp,
+        subframes,
+        sp,
+        sy: r.sy,
+    }
+}

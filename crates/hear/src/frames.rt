@@ -1,0 +1,122 @@
+// The line of each frame.
+use crate::line;
+use frame::Reading;
+use recording::Hearing;
+use values::Outcome;
+use values::State;
+use values::Values;
+
+// The lines of so many frames, by a pass from a fresh state on. Answers whether all were written.
+pub fn all(s: &[u8], count: u32) -> bool {
+    let mut pass = recording::start(s, State::fresh());
+    let mut k = 0;
+    while k < count {
+        let step = recording::next(s, pass);
+        k += 1;
+        if !one(k, step.hearing) {
+            return false;
+        }
+        pass = step.pass;
+    }
+    true
+}
+
+// The line of a frame by its number.
+fn one(k: u32, hearing: Hearing) -> bool {
+    let mut out = line::blank();
+    let reading = hearing.reading;
+    let values = hearing.values;
+    let named = line::told(&mut out, 0, b"frame", k as u64);
+    let read = read_in(&mut out, named, reading);
+    let end = heard(&mut out, read, values);
+    line::written(&mut out, end)
+}
+
+// The 28 indices, the correction number and the order mark.
+fn read_in(out: &mut [u8; 1024], at: usize, reading: Reading) -> usize {
+    let indices = reading.indices;
+    let lsp = indices.lsp;
+    let subframes = indices.subframes;
+    let second = shorts(out, at, &lsp);
+    let third = shorts(out, second, &subframes);
+    let fourth = line::number(out, third, indices.sp as u64);
+    let fifth = line::number(out, fourth, indices.sy as u64);
+    let number = line::told(out, fifth, b" number", reading.correction_number() as u64);
+    line::told(out, number, b" mark", reading.mark as u64)
+}
+
+// The values, or the refusal.
+fn heard(out: &mut [u8; 1024], at: usize, values: Values) -> usize {
+    let outcome = values.outcome;
+    match outcome {
+        Outcome::Heard => values_in(out, at, values),
+        Outcome::TooLarge(field) => line::told(out, at, b" refused 2", field as u64),
+        Outcome::Expansion => text::put_word(out, at, b" refused 6"),
+        Outcome::Nothing => text::put_word(out, at, b" nothing"),
+    }
+}
+
+// Gains, delays, averages and the state after.
+fn values_in(out: &mut [u8; 1024], at: usize, values: Values) -> usize {
+    let cg = values.cg;
+    let pg = values.pg;
+    let delays = values.delays;
+    let averages = values.averages;
+    let gained = gains(out, at, cg, pg);
+    let delay = text::put_word(out, gained, b" delays");
+    let delayed = shorts(out, delay, &delays);
+    let average = text::put_word(out, delayed, b" averages");
+    let averaged = wides(out, average, &averages);
+    kept(out, averaged, values.state)
+}
+
+// The Hz that are kept.
+fn kept(out: &mut [u8; 1024], at: usize, state: State) -> usize {
+    let hz = state.hz;
+    let next = text::put_word(out, at, b" state");
+    shorts(out, next, &hz)
+}
+
+// CG and PG of each subframe.
+fn gains(out: &mut [u8; 1024], start: usize, cg: [i32; 4], pg: [i32; 4]) -> usize {
+    let mut at = text::put_word(out, start, b" gains");
+    let mut n = 0;
+    while n < 4 {
+        let second = line::signed(out, at, cg[n]);
+        at = line::signed(out, second, pg[n]);
+        n += 1;
+    }
+    at
+}
+
+// Numbers of sixteen bits.
+fn shorts(out: &mut [u8; 1024], start: usize, xs: &[u16]) -> usize {
+    let mut at = start;
+    let mut i = 0;
+    while i < xs.len() {
+        at = short(out, at, xs[i]);
+        i += 1;
+    }
+    at
+}
+
+// One of them.
+fn short(out: &mut [u8; 1024], at: usize, n: u16) -> usize {
+    line::number(out, at, n as u64)
+}
+
+// Numbers of 32 bits.
+fn wides(out: &mut [u8; 1024], start: usize, xs: &[u32]) -> usize {
+    let mut at = start;
+    let mut i = 0;
+    while i < xs.len() {
+        at = wide(out, at, xs[i]);
+        i += 1;
+    }
+    at
+}
+
+// One of them.
+fn wide(out: &mut [u8; 1024], at: usize, n: u32) -> usize {
+    line::number(out, at, n as u64)
+}

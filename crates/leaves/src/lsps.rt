@@ -1,0 +1,35 @@
+// LSPs.
+use crate::case;
+use crate::number;
+use lsp::Verdict;
+
+// Ten previous LSPs in Hz and ten present indices: the mark and the averages, or the refusal.
+pub fn number(case: &[u8]) -> u64 {
+    let previous = case::ten(case, 0);
+    let present = lsp::in_hertz(case::ten(case, 10));
+    let verdict = present.verdict;
+    let hz = present.hz;
+    match verdict {
+        Verdict::TooLarge(field) => number::refused(2, (field % 65536) as u16),
+        Verdict::Within => {
+            let mark = (lsp::order_mark(hz) % 65536) as u64;
+            as_one(lsp::averages(previous, hz), mark)
+        }
+    }
+}
+
+// Forty numbers as one.
+fn as_one(averages: [u32; 40], start: u64) -> u64 {
+    let mut sum = start;
+    let mut k = 0;
+    while k < 40 {
+        sum = number::with(sum, wide(averages[k]));
+        k += 1;
+    }
+    sum
+}
+
+// An average.
+fn wide(n: u32) -> u64 {
+    n as u64
+}
