@@ -1,0 +1,249 @@
+#!/usr/bin/env python3
+"""Shows that each must-fail edit of code is a wrong program: with it, a program prints something else than it should.
+
+    wrong.py [--find] [--since COMMIT] [--most N] [--jobs N] [--outside PROGRAM] [CRATE | CRATE/EDIT ..]
+
+An edit is made in a copy of the sources, and a program that uses what it changes is run on it, unproved, by `rt try`. What counts is
+what the compiled program does, at -O0 or at -O3: it ends and writes something else. The edit file names the run, which is then the
+only one that is needed:
+
+    seen: list                         the program on its own `stdin`, held to its own `stdout`
+    seen: list samples/cut.rec         on a recording of samples/, held to the file of the program's name beside it
+    seen: list recordings/00253.rec    on a recording that the independent program makes, held to what it says of it
+    seen: leaves, does not end         the run has to be ended by the bound of `rt try`
+    seen: leaves, is stopped           the run does what the compiler may assume never happens, and the checks for that stop it
+
+The last two count only where the edit says so. An edit without such a line is tried on one run after the other, up to N of each
+program; --find writes the line, and writes it anew where it is no longer true. Every run is made of the right program too, which has to print what it should. With
+--since only the edits of crates are tried that changed after COMMIT; edits of specs/ change what is promised, so they are no wrong
+programs and are not tried. The last line is `N cases, M faults`; the exit is 1 if there are faults or no cases.
+"""
+
+import argparse
+import queue
+import re
+import shutil
+import subprocess
+import sys
+import tempfile
+import time
+from concurrent.futures import ThreadPoolExecutor
+from pathlib import Path
+
+from sources import CRATES, ROOT, Sources, changed, edits
+
+RECORDINGS, SEED = 300, 1
+WAYS = {"-O0": "the native program at -O0", "-O3": "the native program at -O3", "checked": "the native program with LLVM's assumptions checked"}
+ELSE, ENDLESS, STOPPED = "prints something else", "does not end", "is stopped"
+
+
+class Runs:
+    """The runs there are of each program: the word for its input, the input, and what has to be printed."""
+
+    def __init__(self, outside, folder, programs):
+        self.folder = folder
+        made = subprocess.run([outside, "recordings", folder / "recordings", str(RECORDINGS), str(SEED)], check=False) if outside else None
+        if made is not None and made.returncode:
+            sys.exit(f"{outside} recordings ended with status {made.returncode}")
+        self.of = {program: list(self.inputs(program)) for program in programs}
+
+    def inputs(self, program):
+        own = CRATES / program
+        yield "", own / "stdin" if (own / "stdin").exists() else None, own / "stdout"
+        made = [(path, path.with_suffix(f".{program}")) for path in sorted((self.folder / "recordings").glob("*.rec"))]
+        made = [(path, told) for path, told in made if told.exists()]
+        rich = sorted((pair for pair in made if not pair[1].read_bytes().startswith(b"refused") and pair[0].stat().st_size < 2500), key=lambda pair: -pair[0].stat().st_size)
+        kept = [(path, path.with_suffix(f".{program}")) for path in sorted((ROOT / "samples").glob("*.rec"))]
+        kept = [(path, told) for path, told in kept if told.exists()]
+        seen = set()
+        for path, told in rich[:2] + kept + rich[2:5] + made:
+            if (path.parent, printed := told.read_bytes()) not in seen and (path.parent, path) not in seen:
+                seen |= {(path.parent, printed), (path.parent, path)}
+                yield f"{path.parent.name}/{path.name}", path, told
+
+    def named(self, words):
+        """The run that a `seen:` line names, or None."""
+        program, _, data = words.partition(" ")
+        return next(((program, *run) for run in self.of.get(program, []) if run[0] == data.strip()), None)
+
+
+class Room:
+    """A copy of the sources in which programs are tried."""
+
+    def __init__(self, folder):
+        self.folder = folder
+        for crate in CRATES.iterdir():
+            for part in ("src", "data"):
+                if (crate / part).is_dir():
+                    shutil.copytree(crate / part, folder / "crates" / crate.name / part)
+            if (crate / "args").exists():
+                shutil.copy(crate / "args", folder / "crates" / crate.name / "args")
+        shutil.copy(ROOT / "crates.txt", folder / "crates.txt")
+
+    def tried(self, texts, run):
+        """What `rt try` says of each way to run a program, with these texts for some files; None where it is not compiled."""
+        program, _, data, told = run
+        for (crate, file), text in texts.items():
+            (self.folder / "crates" / crate / file).write_text(text, encoding="utf-8")
+        own = self.folder / "crates" / program
+        for name, source in (("stdin", data), ("stdout", told)):
+            (own / name).unlink(missing_ok=True)
+            if source:
+                shutil.copy(source, own / name)
+        try:
+            said = subprocess.run(["rt", "try", program], cwd=self.folder, capture_output=True, text=True, errors="replace", check=False)
+        finally:
+            for crate, file in texts:
+                shutil.copy(CRATES / crate / file, self.folder / "crates" / crate / file)
+        return answers(said.stdout), said.stdout + said.stderr
+
+
+def answers(said):
+    found = {}
+    for way, words in WAYS.items():
+        line = re.search(rf"^(ok|FAIL): {re.escape(words)} (.*)$", said, re.M)
+        if not line:
+            return None
+        status = re.search(r"failed, with status (\d+)", line[2])
+        found[way] = "right" if line[1] == "ok" else ELSE if "did not write what is expected" in line[2] else ENDLESS if status and status[1] == "124" else STOPPED
+    return found
+
+
+def verdict(found):
+    """What a run shows."""
+    if ELSE in (found["-O0"], found["-O3"]):
+        return ELSE
+    for shown in (ENDLESS, STOPPED):
+        if shown in found.values():
+            return shown
+    return None
+
+
+def difference(said):
+    line = re.search(r'^on standard output, at byte (\d+), expected (".*?[^\\]"|"")(?: \(.*?\))?, found (".*?[^\\]"|"")', said[said.find("at -O0"):], re.M)
+    return f"at byte {line[1]} {line[3][:40]} for {line[2][:40]}" if line else ""
+
+
+def parted(seen):
+    """The run of a `seen:` line and what it says is seen there."""
+    run, comma, how = seen.partition(",")
+    return run.strip(), how.strip() if comma else ELSE
+
+
+class Trial:
+    def __init__(self, runs, rooms, sources, most):
+        self.runs, self.rooms, self.most = runs, rooms, most
+        self.main = {item.crate: item for item in sources.programs()}
+        self.reached = {program: {(i.crate, i.file, i.owner, i.name) for i in sources.reached([main])} for program, main in self.main.items()}
+
+    def try_(self, texts, run):
+        room = self.rooms.get()
+        try:
+            return room.tried(texts, run)
+        finally:
+            self.rooms.put(room)
+
+    def programs_for(self, edit):
+        """The programs that use what an edit changes, those with the fewest libraries first."""
+        places = {(edit.crate, *place[:3]) for place in changed(edit) if place}
+        return sorted((p for p in self.main if places & self.reached[p] or p == edit.crate), key=lambda p: len(self.reached[p]))
+
+    def one(self, edit, find):
+        """The line to print for an edit, its fault if it has one, and the `seen:` line it should have."""
+        texts = {(edit.crate, file): text for file, text in edit.applied()[0].items()}
+        if edit.seen:
+            words, how = parted(edit.seen)
+            run = self.runs.named(words)
+            if run:
+                found, said = self.try_(texts, run)
+                if found is None:
+                    return f"{edit}: is not compiled: {said.strip()[:200]}", True, None
+                if verdict(found) == how:
+                    return f"{edit}: {edit.seen}: {difference(said)}", False, run
+            if not find:
+                return f"{edit}: not seen as its line says: {edit.seen}", True, run
+        programs = self.programs_for(edit)
+        if not programs:
+            return f"{edit}: no program uses what it changes", True, None
+        other = None
+        for n in range(self.most):
+            for program in programs:
+                if n >= len(self.runs.of[program]):
+                    continue
+                run = (program, *self.runs.of[program][n])
+                found, said = self.try_(texts, run)
+                if found is None:
+                    return f"{edit}: is not compiled: {said.strip()[:200]}", True, None
+                shown = verdict(found)
+                words = " ".join(word for word in run[:2] if word)
+                if shown == ELSE:
+                    if find:
+                        write_seen(edit, words)
+                    return f"{edit}: {words}: {difference(said)}", False, run
+                if shown and not other:
+                    other = (f"{words}, {shown}", run)
+        if other and find:
+            write_seen(edit, other[0])
+            return f"{edit}: {other[0]}", False, other[1]
+        if other:
+            return f"{edit}: prints the right thing in every run; {other[0]}, which counts if its line says so", True, other[1]
+        return f"{edit}: PRINTS THE RIGHT THING in every run of {', '.join(programs)}", True, None
+
+
+def write_seen(edit, words):
+    lines = [line for line in edit.path.read_text(encoding="utf-8").splitlines() if not line.startswith("seen: ")]
+    at = next(n for n, line in enumerate(lines) if line.startswith("file: "))
+    edit.path.write_text("\n".join([*lines[:at], f"seen: {words}", *lines[at:]]) + "\n", encoding="utf-8")
+
+
+def chosen(names, since):
+    """The edits of code that were asked for."""
+    found = [edit for edit in edits() if edit.of_code]
+    if since:
+        changes = subprocess.run(["git", "diff", "--name-only", since, "--", "crates"], cwd=ROOT, capture_output=True, text=True, check=True).stdout
+        crates = {line.split("/")[1] for line in changes.splitlines()}
+        found = [edit for edit in found if edit.crate in crates]
+    for name in names:
+        if not any(name in (edit.crate, str(edit)) for edit in found):
+            sys.exit(f"{name}: no such edit of code")
+    return [edit for edit in found if not names or edit.crate in names or str(edit) in names]
+
+
+def main():
+    parser = argparse.ArgumentParser(usage=__doc__)
+    parser.add_argument("names", nargs="*")
+    parser.add_argument("--find", action="store_true")
+    parser.add_argument("--since")
+    parser.add_argument("--outside", default=str(ROOT / "outside/target/release/outside"))
+    parser.add_argument("--most", type=int, default=40)
+    parser.add_argument("--jobs", type=int, default=2)
+    told = parser.parse_args()
+    sources = Sources()
+    wanted = chosen(told.names, told.since)
+    faults, used = 0, set()
+    started = time.time()
+    with tempfile.TemporaryDirectory() as folder:
+        folder = Path(folder)
+        (folder / "recordings").mkdir()
+        runs = Runs(told.outside, folder, [item.crate for item in sources.programs()])
+        rooms = queue.Queue()
+        for n in range(told.jobs):
+            rooms.put(Room(folder / f"room{n}"))
+        trial = Trial(runs, rooms, sources, told.most)
+        with ThreadPoolExecutor(told.jobs) as pool:
+            for said, fault, run in pool.map(lambda edit: trial.one(edit, told.find), wanted):
+                faults += fault
+                used |= {run} if run else set()
+                print(("FAULT " if fault else "") + said, flush=True)
+            for run, (found, said) in zip(sorted(used, key=str), pool.map(lambda run: trial.try_({}, run), sorted(used, key=str))):
+                right = found is not None and set(found.values()) == {"right"}
+                faults += not right
+                if not right:
+                    print(f"FAULT the right program: {' '.join(run[:2])}: {found or said.strip()[:300]}")
+    print(f"the right program prints what it should in {len(used)} runs" if not faults else f"{len(used)} runs of the right program were made")
+    print(f"{time.time() - started:.0f} s, edits of code tried: {len(wanted)} cases, {faults} faults")
+    return 1 if faults or not wanted else 0
+
+
+if __name__ == "__main__":
+    sys.exit(main())
