@@ -1,7 +1,7 @@
 #!/usr/bin/env python3
 """Shows that each must-fail edit of code is a wrong program: with it, a program prints something else than it should.
 
-    wrong.py [--find] [--since COMMIT] [--most N] [--jobs N] [--outside PROGRAM] [CRATE | CRATE/EDIT ..]
+    wrong.py [--find] [--since COMMIT] [--jobs N] [--outside PROGRAM] [CRATE | CRATE/EDIT ..]
 
 An edit is made in a copy of the sources, and a program that uses what it changes is run on it, unproved, by `rt try`. What counts is
 what the compiled program does, at -O0 or at -O3: it ends and writes something else. The edit file names the run, which is then the
@@ -13,13 +13,14 @@ only one that is needed:
     seen: leaves, does not end         the run has to be ended by the bound of `rt try`
     seen: leaves, is stopped           the run does what the compiler may assume never happens, and the checks for that stop it
 
-The last two count only where the edit says so. An edit without such a line is tried on one run after the other, up to N of each
-program; --find writes the line, and writes it anew where it is no longer true. Every run is made of the right program too, which has to print what it should. With
---since only the edits of crates are tried that changed after COMMIT; edits of specs/ change what is promised, so they are no wrong
+The last two count only where the edit says so. For an edit without such a line a run is looked for among all there are; --find writes the
+line, and writes it anew where it is no longer true. Every run is made of the right program too, which has to print what it should. With
+--since only the edits of crates are tried that changed after COMMIT. Edits of specs/ change what is promised, so they are no wrong
 programs and are not tried. The last line is `N cases, M faults`; the exit is 1 if there are faults or no cases.
 """
 
 import argparse
+import os
 import queue
 import re
 import shutil
@@ -50,15 +51,10 @@ class Runs:
     def inputs(self, program):
         own = CRATES / program
         yield "", own / "stdin" if (own / "stdin").exists() else None, own / "stdout"
-        made = [(path, path.with_suffix(f".{program}")) for path in sorted((self.folder / "recordings").glob("*.rec"))]
-        made = [(path, told) for path, told in made if told.exists()]
-        rich = sorted((pair for pair in made if not pair[1].read_bytes().startswith(b"refused") and pair[0].stat().st_size < 2500), key=lambda pair: -pair[0].stat().st_size)
-        kept = [(path, path.with_suffix(f".{program}")) for path in sorted((ROOT / "samples").glob("*.rec"))]
-        kept = [(path, told) for path, told in kept if told.exists()]
-        seen = set()
-        for path, told in rich[:2] + kept + rich[2:5] + made:
-            if (path.parent, printed := told.read_bytes()) not in seen and (path.parent, path) not in seen:
-                seen |= {(path.parent, printed), (path.parent, path)}
+        kept = sorted((ROOT / "samples").glob("*.rec"))
+        made = sorted((self.folder / "recordings").glob("*.rec"), key=lambda path: (path.stat().st_size > 2500, -path.stat().st_size))
+        for path in kept + made:
+            if (told := path.with_suffix(f".{program}")).exists():
                 yield f"{path.parent.name}/{path.name}", path, told
 
     def named(self, words):
@@ -79,10 +75,30 @@ class Room:
             if (crate / "args").exists():
                 shutil.copy(crate / "args", folder / "crates" / crate.name / "args")
         shutil.copy(ROOT / "crates.txt", folder / "crates.txt")
+        self.kept = folder / "kept"
+        self.kept.mkdir()
+        self.kit = self.keeping_kit(folder / "kit")
+
+    def keeping_kit(self, kit):
+        """The kit, its linker told to keep a copy of each program that it makes, so that `rt try` leaves what it has compiled."""
+        rt = Path(shutil.which("rt")).resolve()
+        home, machine = Path(os.environ.get("RATTLE_HOME", rt.parent.parent)), os.uname().machine
+        inner = Path("on", machine, "toolchain", "bin", "ld.lld")
+        for depth in range(len(inner.parts)):
+            part = Path(*inner.parts[:depth])
+            (kit / part).mkdir()
+            for entry in (home / part).iterdir():
+                if entry.name != inner.parts[depth]:
+                    (kit / part / entry.name).symlink_to(entry)
+        (kit / inner).write_text(f'#!/bin/sh\n"{home / inner}" "$@" || exit\ncp program "{self.kept}/$(ls "{self.kept}" | wc -l)"\n', encoding="utf-8")
+        (kit / inner).chmod(0o755)
+        return kit
 
     def tried(self, texts, run):
         """What `rt try` says of each way to run a program, with these texts for some files; None where it is not compiled."""
         program, _, data, told = run
+        for old in self.kept.iterdir():
+            old.unlink()
         for (crate, file), text in texts.items():
             (self.folder / "crates" / crate / file).write_text(text, encoding="utf-8")
         own = self.folder / "crates" / program
@@ -91,11 +107,27 @@ class Room:
             if source:
                 shutil.copy(source, own / name)
         try:
-            said = subprocess.run(["rt", "try", program], cwd=self.folder, capture_output=True, text=True, errors="replace", check=False)
+            said = subprocess.run(["rt", "try", program], cwd=self.folder, env={**os.environ, "RATTLE_HOME": str(self.kit)}, capture_output=True, text=True,
+                                  errors="replace", check=False)
         finally:
             for crate, file in texts:
                 shutil.copy(CRATES / crate / file, self.folder / "crates" / crate / file)
         return answers(said.stdout), said.stdout + said.stderr
+
+    def differs(self, runs):
+        """The first run in which the program kept from -O0, or the one from -O3, ends and prints something else; or None."""
+        for run in runs:
+            with open(run[2] or os.devnull, "rb") as data:
+                wanted = run[3].read_bytes()
+                for kept in ("0", "1"):
+                    data.seek(0)
+                    try:
+                        printed = subprocess.run([ROOT / "run", self.kept / kept], stdin=data, capture_output=True, timeout=10, check=False)
+                    except subprocess.TimeoutExpired:
+                        continue
+                    if printed.returncode == 0 and printed.stdout != wanted:
+                        return run
+        return None
 
 
 def answers(said):
@@ -131,63 +163,67 @@ def parted(seen):
 
 
 class Trial:
-    def __init__(self, runs, rooms, sources, most):
-        self.runs, self.rooms, self.most = runs, rooms, most
+    def __init__(self, runs, rooms, sources):
+        self.runs, self.rooms = runs, rooms
         self.main = {item.crate: item for item in sources.programs()}
         self.reached = {program: {(i.crate, i.file, i.owner, i.name) for i in sources.reached([main])} for program, main in self.main.items()}
-
-    def try_(self, texts, run):
-        room = self.rooms.get()
-        try:
-            return room.tried(texts, run)
-        finally:
-            self.rooms.put(room)
 
     def programs_for(self, edit):
         """The programs that use what an edit changes, those with the fewest libraries first."""
         places = {(edit.crate, *place[:3]) for place in changed(edit) if place}
         return sorted((p for p in self.main if places & self.reached[p] or p == edit.crate), key=lambda p: len(self.reached[p]))
 
+    def tried(self, texts, run):
+        room = self.rooms.get()
+        try:
+            return room.tried(texts, run)
+        finally:
+            self.rooms.put(room)
+
+    def looked_for(self, texts, programs):
+        """A run that shows an edit, and what it shows; the best there is. Where it is not compiled, why."""
+        other = None, None, ""
+        room = self.rooms.get()
+        try:
+            for program in programs:
+                runs = [(program, *run) for run in self.runs.of[program]]
+                run = runs[0]
+                while run:
+                    found, said = room.tried(texts, run)
+                    if found is None:
+                        return None, None, said
+                    if (shown := verdict(found)) == ELSE:
+                        return run, ELSE, said
+                    if shown and not other[0]:
+                        other = run, shown, said
+                    run = room.differs(runs[1:]) if run is runs[0] else None
+        finally:
+            self.rooms.put(room)
+        return other
+
     def one(self, edit, find):
-        """The line to print for an edit, its fault if it has one, and the `seen:` line it should have."""
+        """The line to print for an edit, whether it is a fault, and the run in which it is seen."""
         texts = {(edit.crate, file): text for file, text in edit.applied()[0].items()}
-        if edit.seen:
-            words, how = parted(edit.seen)
-            run = self.runs.named(words)
-            if run:
-                found, said = self.try_(texts, run)
-                if found is None:
-                    return f"{edit}: is not compiled: {said.strip()[:200]}", True, None
-                if verdict(found) == how:
-                    return f"{edit}: {edit.seen}: {difference(said)}", False, run
-            if not find:
-                return f"{edit}: not seen as its line says: {edit.seen}", True, run
+        words, how = parted(edit.seen)
+        if run := self.runs.named(words):
+            found, said = self.tried(texts, run)
+            if found and verdict(found) == how:
+                return f"{edit}: {edit.seen}: {difference(said)}", False, run
+        if edit.seen and not find:
+            return f"{edit}: is not seen as its line says: {edit.seen}", True, run
         programs = self.programs_for(edit)
         if not programs:
             return f"{edit}: no program uses what it changes", True, None
-        other = None
-        for n in range(self.most):
-            for program in programs:
-                if n >= len(self.runs.of[program]):
-                    continue
-                run = (program, *self.runs.of[program][n])
-                found, said = self.try_(texts, run)
-                if found is None:
-                    return f"{edit}: is not compiled: {said.strip()[:200]}", True, None
-                shown = verdict(found)
-                words = " ".join(word for word in run[:2] if word)
-                if shown == ELSE:
-                    if find:
-                        write_seen(edit, words)
-                    return f"{edit}: {words}: {difference(said)}", False, run
-                if shown and not other:
-                    other = (f"{words}, {shown}", run)
-        if other and find:
-            write_seen(edit, other[0])
-            return f"{edit}: {other[0]}", False, other[1]
-        if other:
-            return f"{edit}: prints the right thing in every run; {other[0]}, which counts if its line says so", True, other[1]
-        return f"{edit}: PRINTS THE RIGHT THING in every run of {', '.join(programs)}", True, None
+        run, shown, said = self.looked_for(texts, programs)
+        if not run:
+            why = f"is not compiled: {said.strip()[:200]}" if said else f"PRINTS THE RIGHT THING in every run of {', '.join(programs)}"
+            return f"{edit}: {why}", True, None
+        words = " ".join(word for word in run[:2] if word) + ("" if shown == ELSE else f", {shown}")
+        if find:
+            write_seen(edit, words)
+        elif shown != ELSE:
+            return f"{edit}: {words}, which counts only if its line says so", True, run
+        return f"{edit}: {words}: {difference(said)}", False, run
 
 
 def write_seen(edit, words):
@@ -215,7 +251,6 @@ def main():
     parser.add_argument("--find", action="store_true")
     parser.add_argument("--since")
     parser.add_argument("--outside", default=str(ROOT / "outside/target/release/outside"))
-    parser.add_argument("--most", type=int, default=40)
     parser.add_argument("--jobs", type=int, default=2)
     told = parser.parse_args()
     sources = Sources()
@@ -229,13 +264,13 @@ def main():
         rooms = queue.Queue()
         for n in range(told.jobs):
             rooms.put(Room(folder / f"room{n}"))
-        trial = Trial(runs, rooms, sources, told.most)
+        trial = Trial(runs, rooms, sources)
         with ThreadPoolExecutor(told.jobs) as pool:
             for said, fault, run in pool.map(lambda edit: trial.one(edit, told.find), wanted):
                 faults += fault
                 used |= {run} if run else set()
                 print(("FAULT " if fault else "") + said, flush=True)
-            for run, (found, said) in zip(sorted(used, key=str), pool.map(lambda run: trial.try_({}, run), sorted(used, key=str))):
+            for run, (found, said) in zip(sorted(used, key=str), pool.map(lambda run: trial.tried({}, run), sorted(used, key=str))):
                 right = found is not None and set(found.values()) == {"right"}
                 faults += not right
                 if not right:
