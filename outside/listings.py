@@ -4,8 +4,8 @@
     listings.py OUTSIDE N SEED LIST..
 
 OUTSIDE writes N recordings with their listings, sound and damaged, the named edges first. LIST, one or more words, is run on each, from a file;
-on some also from a pipe in small pieces. Whatever it prints has to be the listing, byte for byte, and nothing may stand on
-standard error. The last line is `compared N cases, M differ`; the exit is 1 if any differ or none was compared.
+on some also from a pipe in small pieces. It has to end with status 0, to print the listing, byte for byte, and nothing on standard error.
+The last line is `compared N cases, M differ`; the exit is 1 if any differ or none was compared.
 """
 
 import subprocess
@@ -23,7 +23,7 @@ def in_pieces(program, data, size):
             process.stdin.flush()
     except BrokenPipeError:
         pass
-    return process.communicate()
+    return (*process.communicate(), process.returncode)
 
 
 def main(outside, count, seed, *program):
@@ -35,14 +35,14 @@ def main(outside, count, seed, *program):
             refused += expected.startswith(b"refused")
             with path.open("rb") as recording:
                 run = subprocess.run(program, stdin=recording, capture_output=True, check=False)
-            answers = [(run.stdout, run.stderr, "from a file")]
+            answers = [(run.stdout, run.stderr, run.returncode, "from a file")]
             if n % 10 == 0 and path.stat().st_size < 3000:
                 answers.append((*in_pieces(program, path.read_bytes(), 1 + n % 7), "in pieces"))
-            for printed, said, how in answers:
+            for printed, said, status, how in answers:
                 compared += 1
-                if printed != expected or said:
+                if printed != expected or said or status:
                     differ += 1
-                    print(f"{path.name} {how}: {printed[:120]!r}, not {expected[:120]!r}; standard error {said[:120]!r}")
+                    print(f"{path.name} {how}: {printed[:120]!r}, not {expected[:120]!r}; status {status}, standard error {said[:120]!r}")
     print(f"{refused} of the recordings are refused")
     print(f"compared {compared} cases, {differ} differ")
     return 1 if differ or not compared else 0
