@@ -7,8 +7,9 @@ Every public function of a library has a row in PROMISES with its determination 
 count for it: edits that change that function, or a private step or a constant that it alone uses. Every edit of code stands in a row or
 under "Other edits of code", every edit of specs/ under "Edits of definitions"; every statement stands under a demand and on the page; and
 no page names a statement, an edit or a proof that is not there. A determination proof takes two results that the function's own contract
-allows for the same arguments and concludes that they are equal, and with them each buffer that was lent to be written. The last line is
-`N cases, M faults`; the exit is 1 where there is a fault.
+allows for the same arguments and concludes that they are equal, and with them each buffer that was lent to be written. Only a function
+that calls C has the word `exception` for it, and is named under "Exceptions" with why. The last line is `N cases, M faults`; the exit is 1
+where there is a fault.
 """
 
 import re
@@ -51,15 +52,16 @@ KIT = {
     "Lfts": "contract.Lifetimes",
     "AtExit": "denote.Triple.Clauses",
     "now": "denote.Ref",
+    "ptr": "denote.Ref",
     "Dens": "borrow.Fn.Kinds",
     "resT": "borrow.Fn.Kinds",
     "endedOf": "borrow.Fn.Kinds",
     "_≡_": "mathlib.Core.Path",
 }
 THEOREM = re.compile(
-    r"\(κs : Lfts (?P<n>\d+)\) \(a : Dens κs (?P<k>\S+)\.ps\) \(r₁ r₂ : resT (?P=k)\.r κs \.Denot\)"
-    r" \(x₁ x₂ : AtExit \(endedOf (?P=n) (?P=k)\.ps (?P=k)\.r\) κs\)"
-    r" → (?P<reads>\S+)\.Post κs a r₁ x₁ → (?P=reads)\.Post κs a r₂ x₂ → (?P<so>.*)"
+    r"\(κs : Lfts (?P<n>\d+)\) \(a : Dens κs (?P<k>\S+)\.ps\) \((?P<r>[a-z]+)₁ (?P=r)₂ : resT (?P=k)\.r κs \.Denot\)"
+    r" \((?P<x>[a-z]+)₁ (?P=x)₂ : AtExit \(endedOf (?P=n) (?P=k)\.ps (?P=k)\.r\) κs\)"
+    r" → (?P<reads>\S+)\.Post κs a (?P=r)₁ (?P=x)₁ → (?P=reads)\.Post κs a (?P=r)₂ (?P=x)₂ → (?P<so>.*)"
 )
 
 
@@ -115,15 +117,18 @@ class Determined:
         for used, module in ((told["k"], "Kinds"), (told["reads"], "Reads")):
             if self.names.get(used) != f"{root}.{module}":
                 return f"speaks of {self.names.get(used, used)}, not of {root}.{module}"
+        if told["r"] == told["x"]:
+            return "has one name for results and buffers"
         parts = set(conjuncts(told["so"]))
         _, result, wanted = parted(function.head)
-        if result:
-            equal = {"r₁ ≡ r₂", "now r₁ ≡ now r₂"} if result.startswith("&") else {"r₁ ≡ r₂"}
-            if not parts & equal:
+        both = [f"{told['r']}₁", f"{told['r']}₂"]
+        if result and " ≡ ".join(both) not in parts:
+            # a part of a lent buffer is the same part if it has the same bytes at the same place
+            if not result.startswith("&") or not {f"{of} {both[0]} ≡ {of} {both[1]}" for of in ("now", "ptr")} <= parts:
                 return "does not conclude that the results are equal"
         for at in wanted:
             place = " .1" * at + " .0"
-            if f"now (x₁{place}) ≡ now (x₂{place})" not in parts:
+            if f"now ({told['x']}₁{place}) ≡ now ({told['x']}₂{place})" not in parts:
                 return f"does not conclude that what parameter {at + 1} lends is left the same"
         if not result and not wanted:
             return "has nothing to conclude"
@@ -150,7 +155,7 @@ def parted(head):
 
 def counts(edit, function):
     """Whether an edit of code changes a function, or only steps and constants that it alone uses."""
-    for place in changed(edit):
+    for place in PLACES[edit.crate, edit.label]:
         if place is None:
             return False
         file, owner, name, kind = place
@@ -160,7 +165,22 @@ def counts(edit, function):
     return True
 
 
+PLACES = {}
+for found in EDITS.values():
+    for edit in found.values():
+        try:
+            PLACES[edit.crate, edit.label] = changed(edit) if edit.of_code else []
+        except (ValueError, OSError) as fault:
+            hold(False, str(fault))
+            PLACES[edit.crate, edit.label] = [None]
+
+
+def calls_c(function):
+    return any(item.calls_c for item in SOURCES.reached([function]) | {function})
+
+
 ROW = re.compile(r"^\| `(\w+)::([\w:]+)` \|.*$", re.M)
+exceptions = section("**Exceptions.**", r"^## ")
 table = section("## Public functions", r"^## |^\*\*Other edits of code")
 rows = {}
 for found in ROW.finditer(table):
@@ -190,6 +210,10 @@ for crate in LIBRARIES:
                 standing.setdefault((crate, label), []).append(name)
         good = [label for label in dict.fromkeys(told) if label in EDITS.get(crate, {}) and EDITS[crate][label].of_code and counts(EDITS[crate][label], function)]
         hold(len(good) >= 2, f"{name}: {len(good)} of its edits count ({', '.join(good) or 'none'}): they change the function or a step that it alone uses; two are needed")
+        if cells[3] == "exception":
+            hold(calls_c(function), f"{name}: calls no C, so its answer can be determined")
+            hold(f"`{name}`" in exceptions, f"{name}: stands under no exceptions")
+            continue
         proof = re.fullmatch(r"`([^`]+)`", cells[3])
         if hold(proof, f"{name}: the row names no determination proof") and hold(proof[1] in determined.says, f"{name}: there is no proof {proof[1]} in {crate}/proofs/Determined.antt"):
             hold(proof[1] not in used, f"{name}: the proof {proof[1]} stands in another row")

@@ -15,6 +15,7 @@ CRATES = ROOT / "crates"
 MASKED = re.compile(r'//[^\n]*|b?"(?:\\.|[^"\\])*"|b?\'(?:\\(?:x[0-9a-fA-F]{2}|.)|[^\'\\\n])\'', re.S)
 HEADS = re.compile(r"(?P<public>\bpub\s+)?(?:extern\s+\"\s*\"\s+)?\b(?P<kind>fn|const|impl|mod|struct|enum|use|extern)\b")
 CLAUSES = ("requires", "ensures")
+C_LIBRARIES = ("libc", "io", "os")
 CALL = re.compile(r"(?<![\w.])(?P<path>(?:\w+\s*::\s*)*)(?P<name>\w+)\s*\(")
 METHOD = re.compile(r"\.\s*(?P<name>[a-z_]\w*)\s*\(")
 CONSTANT = re.compile(r"(?<![\w.])(?P<path>(?:\w+\s*::\s*)*)(?P<name>[A-Z][A-Z0-9_]*)\b(?!\s*(?:::|\())")
@@ -76,6 +77,7 @@ class Item:
     body: str
     uses: set = field(default_factory=set)
     unclear: set = field(default_factory=set)
+    calls_c: bool = False
 
     def __str__(self):
         return "::".join(part for part in (self.crate, *self.module, self.owner, self.name) if part)
@@ -235,6 +237,8 @@ class Sources:
     def connect(self, item):
         for call in CALL.finditer(item.body):
             segments = [part.strip() for part in call["path"].split("::") if part.strip()]
+            brought = self.files[item.crate, item.module].brought.get(segments[0] if segments else call["name"], segments)
+            item.calls_c = item.calls_c or brought[:1] in [[name] for name in C_LIBRARIES]
             if found := self.find(item, segments, call["name"], "fn"):
                 item.uses.add(found)
             elif segments and call["name"][0].islower() and self.ours(item, segments):

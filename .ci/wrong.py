@@ -203,7 +203,10 @@ class Trial:
 
     def one(self, edit, find):
         """The line to print for an edit, whether it is a fault, and the run in which it is seen."""
-        texts = {(edit.crate, file): text for file, text in edit.applied()[0].items()}
+        try:
+            texts = {(edit.crate, file): text for file, text in edit.applied()[0].items()}
+        except (ValueError, OSError) as fault:
+            return str(fault), True, None
         words, how = parted(edit.seen)
         if run := self.runs.named(words):
             found, said = self.tried(texts, run)
