@@ -31,7 +31,7 @@ import time
 from concurrent.futures import ThreadPoolExecutor
 from pathlib import Path
 
-from sources import CRATES, ROOT, Sources, changed, edits
+from sources import CRATES, ROOT, Sources, below, changed, edits
 
 RECORDINGS, SEED = 300, 1
 WAYS = {"-O0": "the native program at -O0", "-O3": "the native program at -O3", "checked": "the native program with LLVM's assumptions checked"}
@@ -164,14 +164,14 @@ def parted(seen):
 
 class Trial:
     def __init__(self, runs, rooms, sources):
-        self.runs, self.rooms = runs, rooms
+        self.runs, self.rooms, self.listed = runs, rooms, sources.listed
         self.main = {item.crate: item for item in sources.programs()}
         self.reached = {program: {(i.crate, i.file, i.owner, i.name) for i in sources.reached([main])} for program, main in self.main.items()}
 
     def programs_for(self, edit):
         """The programs that use what an edit changes, those with the fewest libraries first."""
         places = {(edit.crate, *place[:3]) for place in changed(edit) if place}
-        return sorted((p for p in self.main if places & self.reached[p] or p == edit.crate), key=lambda p: len(self.reached[p]))
+        return sorted((p for p in self.main if places & self.reached[p] or p == edit.crate), key=lambda p: len(below(p, self.listed)))
 
     def tried(self, texts, run):
         room = self.rooms.get()
@@ -181,7 +181,7 @@ class Trial:
             self.rooms.put(room)
 
     def looked_for(self, texts, programs):
-        """A run that shows an edit, and what it shows; the best there is. Where it is not compiled, why."""
+        """A run that shows an edit, and what it shows; the best there is. Where there is none and a program is not compiled, why."""
         other = None, None, ""
         room = self.rooms.get()
         try:
@@ -191,7 +191,8 @@ class Trial:
                 while run:
                     found, said = room.tried(texts, run)
                     if found is None:
-                        return None, None, said
+                        other = other if other[0] else (None, None, said)
+                        break
                     if (shown := verdict(found)) == ELSE:
                         return run, ELSE, said
                     if shown and not other[0]:
