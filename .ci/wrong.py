@@ -11,7 +11,8 @@ only one that is needed:
     seen: list samples/cut.rec         on a recording of samples/, held to the file of the program's name beside it
     seen: list recordings/00253.rec    on a recording that the independent program makes, held to what it says of it
     seen: leaves, does not end         the run has to be ended by the bound of `rt try`
-    seen: leaves, is stopped           the run does what the compiler may assume never happens, and the checks for that stop it
+    seen: leaves, is stopped           the program ends otherwise than by its own end: a signal, a check of what the compiler assumes, or
+                                       the interpreter's word that what it does has no meaning (a sum that does not fit)
 
 The last two count only where the edit says so. For an edit without such a line a run is looked for among all there are; --find writes the
 line, and writes it anew where it is no longer true. Every run is made of the right program too, which has to print what it should. With
@@ -131,7 +132,8 @@ class Room:
 
 
 def answers(said):
-    found = {}
+    """What each way to run a program came to; the interpreter counts only where it says that the program has no meaning."""
+    found = {"interpreter": STOPPED if re.search(r"^undefined behavior", said, re.M) else "right"}
     for way, words in WAYS.items():
         line = re.search(rf"^(ok|FAIL): {re.escape(words)} (.*)$", said, re.M)
         if not line:
