@@ -270,7 +270,9 @@ for statement in gathered:
     hold(f"`{statement}`" in PAGE, f"{statement} is not on the page")
 for statement in re.findall(r"`([A-Z][a-z]+(?:[A-Z][a-z]+)+)`", PAGE[:PAGE.index("## Public functions")]):
     hold(statement in statements, f"PROMISES names {statement}, which is no statement")
-for claim in re.findall(r"\*\(([^)*]+)\)\*", HANDBOOK):
+claims = re.findall(r"\*\(([^)*]+)\)\*", HANDBOOK)
+hold(claims, "HANDBOOK names no statement")
+for claim in claims:
     for statement in re.split(r"[,;] ", claim):
         hold(statement in statements, f"HANDBOOK names {statement}, which is no statement")
 

@@ -116,7 +116,9 @@ class Room:
         return answers(said.stdout), said.stdout + said.stderr
 
     def differs(self, runs):
-        """The first run in which the program kept from -O0, or the one from -O3, ends and prints something else; or None."""
+        """The first run in which the program kept from -O0, or the one from -O3, ends and prints something else; or None.
+        It is not looked for further once three runs have not ended."""
+        endless = 0
         for run in runs:
             with open(run[2] or os.devnull, "rb") as data:
                 wanted = run[3].read_bytes()
@@ -125,6 +127,9 @@ class Room:
                     try:
                         printed = subprocess.run([ROOT / "run", self.kept / kept], stdin=data, capture_output=True, timeout=10, check=False)
                     except subprocess.TimeoutExpired:
+                        endless += 1
+                        if endless == 3:
+                            return None
                         continue
                     if printed.returncode == 0 and printed.stdout != wanted:
                         return run
