@@ -1,12 +1,11 @@
 #!/usr/bin/env python3
-"""Holds a program that reads a recording to the independent one.
+"""Holds the listing program to the independent one.
 
-    listings.py OUTSIDE N SEED NAME PROGRAM..
+    listings.py OUTSIDE N SEED LIST..
 
-OUTSIDE writes N recordings, sound and damaged, the named edges first, each with what it says of it under NAME: list or hear. PROGRAM, one
-or more words, is run on each, from a file; on some also from a pipe in small pieces. It has to end with status 0, to print the same, byte
-for byte, and nothing on standard error. A recording for which OUTSIDE writes no file of that name is left out. The last line is
-`compared N cases, M differ`; the exit is 1 if any differ or none was compared.
+OUTSIDE writes N recordings with their listings, sound and damaged, the named edges first. LIST, one or more words, is run on each, from a file;
+on some also from a pipe in small pieces. Whatever it prints has to be the listing, byte for byte, and nothing may stand on
+standard error. The last line is `compared N cases, M differ`; the exit is 1 if any differ or none was compared.
 """
 
 import subprocess
@@ -24,36 +23,32 @@ def in_pieces(program, data, size):
             process.stdin.flush()
     except BrokenPipeError:
         pass
-    return (*process.communicate(), process.returncode)
+    return process.communicate()
 
 
-def main(outside, count, seed, name, *program):
-    compared, differ, refused, left_out = 0, 0, 0, 0
+def main(outside, count, seed, *program):
+    compared, differ, refused = 0, 0, 0
     with tempfile.TemporaryDirectory() as folder:
         subprocess.run([outside, "recordings", folder, count, seed], check=True)
         for n, path in enumerate(sorted(Path(folder).glob("*.rec"))):
-            told = path.with_suffix(f".{name}")
-            if not told.exists():
-                left_out += 1
-                continue
-            expected = told.read_bytes()
+            expected = path.with_suffix(".list").read_bytes()
             refused += expected.startswith(b"refused")
             with path.open("rb") as recording:
                 run = subprocess.run(program, stdin=recording, capture_output=True, check=False)
-            answers = [(run.stdout, run.stderr, run.returncode, "from a file")]
+            answers = [(run.stdout, run.stderr, "from a file")]
             if n % 10 == 0 and path.stat().st_size < 3000:
                 answers.append((*in_pieces(program, path.read_bytes(), 1 + n % 7), "in pieces"))
-            for printed, said, status, how in answers:
+            for printed, said, how in answers:
                 compared += 1
-                if printed != expected or said or status:
+                if printed != expected or said:
                     differ += 1
-                    print(f"{path.name} {how}: {printed[:120]!r}, not {expected[:120]!r}; status {status}, standard error {said[:120]!r}")
-    print(f"{refused} of the recordings are refused, {left_out} left out")
+                    print(f"{path.name} {how}: {printed[:120]!r}, not {expected[:120]!r}; standard error {said[:120]!r}")
+    print(f"{refused} of the recordings are refused")
     print(f"compared {compared} cases, {differ} differ")
     return 1 if differ or not compared else 0
 
 
 if __name__ == "__main__":
-    if len(sys.argv) < 6:
+    if len(sys.argv) < 5:
         sys.exit(__doc__)
     sys.exit(main(*sys.argv[1:]))
