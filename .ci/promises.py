@@ -2,6 +2,7 @@
 """Holds docs/PROMISES.md and docs/HANDBOOK.md to the crates.
 
     promises.py
+    promises.py --lists    prints the lists of edits that stand in no row, as the page has to have them
 
 Every public function of a library has a row in PROMISES with its determination proof and at least two must-fail edits of code that
 count for it: edits that change that function, or a private step or a constant that it alone uses. Every edit of code stands in a row or
@@ -237,6 +238,14 @@ def listed(part):
     return found
 
 
+if sys.argv[1:] == ["--lists"]:
+    for crate, found in sorted(EDITS.items()):
+        if labels := [f"`{label}`" for label, edit in found.items() if edit.of_code and (crate, label) not in standing]:
+            print(f"- `{crate}`: {', '.join(labels)}")
+    for crate, found in sorted(EDITS.items()):
+        if told := [f"{edit.says.rstrip('.')} (`{label}`)" for label, edit in found.items() if not edit.of_code]:
+            print(f"- `{crate}`: {'; '.join(told)}")
+    sys.exit()
 other = listed(section("**Other edits of code.**", r"^\*\*(?!Other)|^## "))
 of_specs = listed(section("## Edits of definitions", r"^## "))
 for where, wanted in ((other, True), (of_specs, False)):
