@@ -4,13 +4,13 @@
     wrong.py [--find] [--since COMMIT] [--jobs N] [--outside PROGRAM] [CRATE | CRATE/EDIT ..]
 
 An edit is made in a copy of the sources, and a program that uses what it changes is run on it, unproved, by `rt try`. What counts is
-what the compiled program does, at -O0 or at -O3: it ends and writes something else. The edit file names the run, which is then the
-only one that is needed:
+what the compiled program does, at -O0 or at -O3: it writes something else. The edit file names the run, which is then the only one that
+is needed:
 
     seen: list                         the program on its own `stdin`, held to its own `stdout`
     seen: list samples/cut.rec         on a recording of samples/, held to the file of the program's name beside it
     seen: list recordings/00253.rec    on a recording that the independent program makes, held to what it says of it
-    seen: leaves, does not end         the run has to be ended by the bound of `rt try`
+    seen: leaves, does not end         the run has to be ended by the bound of `rt try`, and what it wrote is only too short
     seen: leaves, is stopped           the program ends otherwise than by its own end: a signal, a check of what the compiler assumes, or
                                        the interpreter's word that what it does has no meaning (a sum that does not fit)
 
@@ -140,11 +140,16 @@ def answers(said):
     """What each way to run a program came to; the interpreter counts only where it says that the program has no meaning."""
     found = {"interpreter": STOPPED if re.search(r"^undefined behavior", said, re.M) else "right"}
     for way, words in WAYS.items():
-        line = re.search(rf"^(ok|FAIL): {re.escape(words)} (.*)$", said, re.M)
+        line = re.search(rf"^(ok|FAIL): {re.escape(words)} (.*)$(?:\n(on standard output, .*))?", said, re.M)
         if not line:
             return None
         status = re.search(r"failed, with status (\d+)", line[2])
-        found[way] = "right" if line[1] == "ok" else ELSE if "did not write what is expected" in line[2] else ENDLESS if status and status[1] == "124" else STOPPED
+        if line[1] == "ok":
+            found[way] = "right"
+        elif not status or not (line[3] or ', found ""').endswith(', found ""'):
+            found[way] = ELSE
+        else:
+            found[way] = ENDLESS if status[1] == "124" else STOPPED
     return found
 
 
