@@ -165,15 +165,15 @@ class File:
 
 
 class Sources:
-    """All crates of a folder, or the text given for some of their files."""
+    """All crates that crates.txt lists: what they have, and what each of that uses."""
 
-    def __init__(self, crates=CRATES, listed=None, instead=None):
-        self.listed = depends() if listed is None else listed
+    def __init__(self):
+        self.listed = depends()
         self.files, self.items, self.faults = {}, [], []
         for crate in self.listed:
             for root in ("lib", "main"):
-                if (crates / crate / "src" / f"{root}.rt").exists():
-                    self.take(crates, crate, (), f"src/{root}.rt", True, instead or {})
+                if (CRATES / crate / "src" / f"{root}.rt").exists():
+                    self.take(crate, (), f"src/{root}.rt", True)
         self.items_by_name = defaultdict(list)
         for item in self.items:
             self.items_by_name[item.crate, item.module, item.owner, item.name].append(item)
@@ -184,19 +184,16 @@ class Sources:
         for item in self.items:
             self.connect(item)
 
-    def take(self, crates, crate, module, file, public, instead):
-        text = instead.get((crate, file))
-        if text is None:
-            text = (crates / crate / file).read_text(encoding="utf-8")
-        read = File(crate, module, file, text)
+    def take(self, crate, module, file, public):
+        read = File(crate, module, file, (CRATES / crate / file).read_text(encoding="utf-8"))
         self.files[crate, module] = read
         for item in read.items:
             item.public = item.public and public
         self.items += read.items
         for name, shown in read.modules.items():
             here = "/".join(("src", *module, name))
-            file = next(f for f in (f"{here}.rt", f"{here}/mod.rt") if (crates / crate / f).exists())
-            self.take(crates, crate, (*module, name), file, public and shown, instead)
+            file = next(f for f in (f"{here}.rt", f"{here}/mod.rt") if (CRATES / crate / f).exists())
+            self.take(crate, (*module, name), file, public and shown)
 
     def place(self, crate, module, owner, segments):
         """Where the path before a name leads from a file: the crate, the module and perhaps the type; None for what is not of this repository."""
@@ -310,13 +307,13 @@ class Edit:
     def of_code(self):
         return all(file.startswith("src/") for file, _, _ in self.pairs)
 
-    def applied(self, crates=CRATES):
+    def applied(self):
         """The texts with the edit made, by file, and the place of each replacement before it was made: rt's own rules."""
         texts, places = {}, []
         for file, old, new in self.pairs:
             text = texts.get(file)
             if text is None:
-                text = (crates / self.crate / file).read_text(encoding="utf-8")
+                text = (CRATES / self.crate / file).read_text(encoding="utf-8")
             if not old or text.count(old) != 1:
                 raise ValueError(f"{self}: the old text {old!r} stands {text.count(old)} times in {file}")
             at = text.index(old)
@@ -341,14 +338,14 @@ def read_edit(path):
     return Edit(path.parent.parent.name, path.stem, path, says, pairs, seen)
 
 
-def edits(crates=CRATES):
-    return [read_edit(path) for path in sorted(crates.glob("*/must-fail/*.edit"))]
+def edits():
+    return [read_edit(path) for path in sorted(CRATES.glob("*/must-fail/*.edit"))]
 
 
-def changed(edit, crates=CRATES):
+def changed(edit):
     """What an edit of code changes: file, type, name and kind of each function or constant; None for a place in neither."""
     found = []
-    for file, text, start, end in edit.applied(crates)[1]:
+    for file, text, start, end in edit.applied()[1]:
         hit = [item for item in File(edit.crate, (), file, text).items if item.start < end and start < item.end]
         found += [(item.file, item.owner, item.name, item.kind) for item in hit] or [None]
     return found
