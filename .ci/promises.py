@@ -160,7 +160,9 @@ def counts(edit, function):
         if place is None:
             return False
         file, owner, name, kind = place
-        item = next(i for i in SOURCES.items if (i.crate, i.file, i.owner, i.name, i.kind) == (edit.crate, file, owner, name, kind))
+        item = next((i for i in SOURCES.items if (i.crate, i.file, i.owner, i.name, i.kind) == (edit.crate, file, owner, name, kind)), None)
+        if item is None:
+            return False
         if item is not function and ((item.public and item.kind == "fn") or SOURCES.owners(item) != {function}):
             return False
     return True
