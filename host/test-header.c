@@ -216,6 +216,26 @@ static void results(void)
     }
 }
 
+/* Each refusal of the archive, by its name in the header. */
+static void refusals(void)
+{
+    uint8_t frame[OATLANTERN_FRAME_BYTES] = { 0 }, record[OATLANTERN_RECORD_BYTES] = { 0 };
+
+    check(oatlantern_write_frame(record, sizeof record, frame, sizeof frame) == 0, "zeros are written", 0);
+    check(oatlantern_refusal(oatlantern_read_frame(frame, sizeof frame - 1, record, sizeof record)) == OATLANTERN_REFUSED_LENGTH &&
+              oatlantern_refusal(oatlantern_write_frame(record, sizeof record + 1, frame, sizeof frame)) == OATLANTERN_REFUSED_LENGTH,
+          "refused for a length", 0);
+    oatlantern_set_index(record, OATLANTERN_SP, 1);
+    check(oatlantern_refusal(oatlantern_write_frame(record, sizeof record, frame, sizeof frame)) == OATLANTERN_REFUSED_EXPANSION,
+          "refused for SP", 0);
+    oatlantern_set_index(record, OATLANTERN_LSP_1, 7);
+    check(oatlantern_refusal(oatlantern_write_frame(record, sizeof record, frame, sizeof frame)) == OATLANTERN_REFUSED_FALLING,
+          "refused for the order", 0);
+    oatlantern_set_index(record, OATLANTERN_SY, 2);
+    check(oatlantern_refusal(oatlantern_write_frame(record, sizeof record, frame, sizeof frame)) == OATLANTERN_REFUSED_TOO_LARGE,
+          "refused for an index", 0);
+}
+
 /* The four refusals, 0 and all others have words, and only the others share theirs. */
 static void words(void)
 {
@@ -247,6 +267,7 @@ int main(int argc, char **argv)
     check(strcmp(version, OATLANTERN_VERSION) == 0, "the version's parts", 0);
     table();
     results();
+    refusals();
     words();
     each_index();
     for (at = 0; at < count; at++) {
