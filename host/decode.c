@@ -23,11 +23,12 @@ static int print_frame(const uint8_t *record, int32_t result)
     return printf("%d %d\n", oatlantern_number(result), oatlantern_mark(result)) >= 0;
 }
 
-/* Says what the correction with this number, not 0, has changed in the frame. */
+/* Says, after the frame's line, what the correction with this number, not 0, has changed. */
 static void say_correction(unsigned long count, int number)
 {
     int field = oatlantern_corrected_field(number);
 
+    fflush(stdout);
     if (field == 0)
         fprintf(stderr, "%s: frame %lu: correction number %d: no index was changed\n", NAME, count, number);
     else
