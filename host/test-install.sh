@@ -25,11 +25,11 @@ holds() {
     checks=$((checks + 1))
 }
 
-# fails WHAT COMMAND..
+# fails WHAT COMMAND..: what it says is then in $tmp/said
 fails() {
     what=$1
     shift
-    if "$@" > "$tmp/log" 2>&1; then fail "$what"; fi
+    if "$@" > "$tmp/said" 2>&1; then fail "$what"; fi
     checks=$((checks + 1))
 }
 
@@ -185,9 +185,9 @@ says "uninstall leaves files" "" find "$tmp/stage" -type f
 # ---- A copy of the repository ----
 
 copy=$tmp/copy
-mkdir "$copy"
-(cd "$root" && cp -a crates crates.txt host include run README.md target "$copy")
-rm -rf "$copy/target/installed"
+mkdir -p "$copy/target"
+(cd "$root" && cp -a crates crates.txt host include run README.md "$copy")
+(cd "$root/target" && cp -a bin host log obj rlib stamp staticlib "$copy/target")
 # a function that no one proves: its sum may be too large
 spoil='fn unproved(a: u8) -> u8 { a + 1 }'
 
@@ -196,7 +196,7 @@ cp "$copy/crates/list/src/main.rt" "$tmp/main.rt"
 echo "$spoil" >> "$copy/crates/list/src/main.rt"
 printf '#!/bin/sh\necho stale\n' > "$copy/target/bin/list"
 fails "an unproved program is installed" make -C "$copy/host" install PREFIX="$copy/installed"
-holds "rt's words are not shown" grep -q 'list NOT PROVED' "$tmp/log"
+holds "rt's words are not shown" grep -q 'list NOT PROVED' "$tmp/said"
 fails "something is installed though a program is not proved" test -e "$copy/installed"
 # proved again, it is made again
 cp "$tmp/main.rt" "$copy/crates/list/src/main.rt"
@@ -207,7 +207,7 @@ holds "a stale program is installed" cmp ../target/bin/list "$copy/installed/bin
 echo "$spoil" >> "$copy/crates/gateway/src/lib.rt"
 rm -r "$copy/installed" "$copy/target/host/oatlantern-decode"
 fails "programs are built on an unproved crate" make -C "$copy/host" install PREFIX="$copy/installed"
-holds "rt's words are not shown" grep -q 'gateway NOT PROVED' "$tmp/log"
+holds "rt's words are not shown" grep -q 'gateway NOT PROVED' "$tmp/said"
 fails "a program is built on an unproved crate" test -e "$copy/target/host/oatlantern-decode"
 fails "something is installed though the archive's crate is not proved" test -e "$copy/installed"
 

@@ -1,5 +1,5 @@
 #!/bin/sh
-# The archive (OATLANTERN_ARCHIVE, or ../../target/staticlib) against the independent program: builds answers.c on it and runs `compare`,
+# The archive (OATLANTERN_ARCHIVE, or the one that ../../host makes) against the independent program: builds answers.c on it and runs `compare`,
 # which asks it over a pipe. compare.sh [N [SEED]]
 set -eu
 cd "$(dirname "$0")"

@@ -1,5 +1,6 @@
 #!/bin/sh
-# Builds sanitize.c with the sanitizers (host/tools.sh says which), links the archive (OATLANTERN_ARCHIVE, or ../../target/staticlib) and runs it.
+# Builds sanitize.c with the sanitizers (host/tools.sh says which), links the archive (OATLANTERN_ARCHIVE, or the one that ../../host makes)
+# and runs it.
 set -eu
 cd "$(dirname "$0")"
 . ../../host/tools.sh
