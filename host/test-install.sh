@@ -51,7 +51,7 @@ if [ -f ../crates/hear/src/main.rt ]; then programs="$programs hear"; fi
 # ---- What is installed ----
 
 holds "make install" make install PREFIX="$tmp/usr"
-for f in lib/liboatlantern.a lib/pkgconfig/oatlantern.pc include/oatlantern.h share/man/man3/oatlantern.3; do
+for f in lib/liboatlantern.a lib/pkgconfig/oatlantern.pc include/oatlantern.h share/man/man3/oatlantern.3 share/doc/oatlantern/CHANGELOG.md; do
     holds "$f was not installed" test -f "$tmp/usr/$f"
 done
 for p in $programs; do
@@ -186,7 +186,7 @@ says "uninstall leaves files" "" find "$tmp/stage" -type f
 
 copy=$tmp/copy
 mkdir -p "$copy/target"
-(cd "$root" && cp -a crates crates.txt host include run README.md "$copy")
+(cd "$root" && cp -a crates crates.txt host include run README.md CHANGELOG.md "$copy")
 (cd "$root/target" && cp -a bin host log obj rlib stamp staticlib "$copy/target")
 # a function that no one proves: its sum may be too large
 spoil='fn unproved(a: u8) -> u8 { a + 1 }'
