@@ -9,6 +9,7 @@ cd "$(dirname "$0")"
 
 tmp=$(mktemp -d)
 trap 'rm -rf "$tmp"' EXIT
+trap 'exit 1' HUP INT TERM
 checks=0
 
 fail() {
@@ -185,9 +186,9 @@ says "uninstall leaves files" "" find "$tmp/stage" -type f
 # ---- A copy of the repository ----
 
 copy=$tmp/copy
-mkdir -p "$copy/target"
+mkdir -p "$copy/target/host"
 (cd "$root" && cp -a crates crates.txt host include run README.md CHANGELOG.md "$copy")
-(cd "$root/target" && cp -a bin host log obj rlib stamp staticlib "$copy/target")
+(cd "$root/target" && cp -a bin rlib stamp "$copy/target" && cp -a host/liboatlantern.a host/oatlantern-decode host/oatlantern-encode "$copy/target/host")
 # a function that no one proves: its sum may be too large
 spoil='fn unproved(a: u8) -> u8 { a + 1 }'
 

@@ -8,6 +8,7 @@ cd "$(dirname "$0")"
 out=../target/host
 tmp=$(mktemp -d)
 trap 'rm -rf "$tmp"' EXIT
+trap 'exit 1' HUP INT TERM
 checks=0
 
 fail() {

@@ -7,5 +7,6 @@ cd "$(dirname "$0")"
 need_archive
 tmp=$(mktemp -d)
 trap 'rm -rf "$tmp"' EXIT
+trap 'exit 1' HUP INT TERM
 $CC -std=c11 -Wall -Wextra -pedantic -Werror -O2 -I../../include -o "$tmp/answers" answers.c "$archive"
 cargo run --offline --release --quiet --bin compare -- "${1:-500000}" "${2:-1}" "$run" "$tmp/answers"

@@ -7,6 +7,7 @@ cd "$(dirname "$0")"
 need_archive
 tmp=$(mktemp -d)
 trap 'rm -rf "$tmp"' EXIT
+trap 'exit 1' HUP INT TERM
 # the words of $sanitizers are split on purpose
 $CC -std=c99 -Wall -Wextra -pedantic -Werror -g -O1 $sanitizers \
     -I../../include -o "$tmp/sanitize" sanitize.c "$archive"
