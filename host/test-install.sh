@@ -46,8 +46,7 @@ says() {
 command -v pkg-config > /dev/null || fail "pkg-config is not there (Debian: apt-get install pkg-config)"
 functions=$(sed -n 's/^[a-z].*[ *]\(oatlantern_[a-z_]*\)(.*/\1/p' ../include/oatlantern.h)
 version=$(sed -n 's/^.define OATLANTERN_VERSION "\(.*\)"$/\1/p' ../include/oatlantern.h)
-programs='decode encode list'
-if [ -f ../crates/hear/src/main.rt ]; then programs="$programs hear"; fi
+programs='decode encode list hear'
 
 # ---- What is installed ----
 
@@ -60,7 +59,7 @@ for p in $programs; do
     holds "oatlantern-$p.1 was not installed" test -f "$tmp/usr/share/man/man1/oatlantern-$p.1"
 done
 for p in list hear; do
-    [ ! -f "$tmp/usr/bin/oatlantern-$p" ] || holds "oatlantern-$p is not what rt built" cmp ../target/bin/$p "$tmp/usr/bin/oatlantern-$p"
+    holds "oatlantern-$p is not what rt built" cmp ../target/bin/$p "$tmp/usr/bin/oatlantern-$p"
 done
 
 # ---- The manual pages ----
