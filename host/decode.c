@@ -1,7 +1,8 @@
 /*
  * oatlantern-decode: 18-byte frames on standard input, one line of text for
  * each on standard output: the 28 indices in field order, the correction
- * number, the order mark.
+ * number, the order mark. With -v, standard error says what each correction
+ * has changed.
  */
 #include <errno.h>
 #include <stdio.h>
@@ -22,15 +23,28 @@ static int print_frame(const uint8_t *record, int32_t result)
     return printf("%d %d\n", oatlantern_number(result), oatlantern_mark(result)) >= 0;
 }
 
+/* Says, after the frame's line, what the correction with this number, not 0, has changed. */
+static void say_correction(unsigned long count, int number)
+{
+    int field = oatlantern_corrected_field(number);
+
+    fflush(stdout);
+    if (field == 0)
+        fprintf(stderr, "%s: frame %lu: correction number %d: no index was changed\n", NAME, count, number);
+    else
+        fprintf(stderr, "%s: frame %lu: correction number %d: bit %d of field %d was inverted\n", NAME, count, number,
+                oatlantern_corrected_bit(number), field);
+}
+
 int main(int argc, char **argv)
 {
     uint8_t frame[OATLANTERN_FRAME_BYTES];
     uint8_t record[OATLANTERN_RECORD_BYTES];
     unsigned long count = 0;
+    int verbose = argc == 2 && strcmp(argv[1], "-v") == 0;
 
-    (void)argv;
-    if (argc != 1) {
-        fprintf(stderr, "usage: %s < FRAMES > LINES\n", NAME);
+    if (argc != 1 + verbose) {
+        fprintf(stderr, "usage: %s [-v] < FRAMES > LINES\n", NAME);
         return 2;
     }
 
@@ -49,12 +63,14 @@ int main(int argc, char **argv)
         if (oatlantern_is_refused(result)) {
             if (fflush(stdout) == EOF)
                 break;
-            fprintf(stderr, "%s: frame %lu: refused %d: it has %lu bytes, not %d\n", NAME, count,
-                    oatlantern_refusal(result), (unsigned long)got, OATLANTERN_FRAME_BYTES);
+            fprintf(stderr, "%s: frame %lu: refused %d: %s (%lu bytes are left)\n", NAME, count, oatlantern_refusal(result),
+                    oatlantern_refusal_words(oatlantern_refusal(result)), (unsigned long)got);
             return 1;
         }
         if (!print_frame(record, result))
             break;
+        if (verbose && oatlantern_number(result) != 0)
+            say_correction(count, oatlantern_number(result));
     }
 
     if (fflush(stdout) == EOF || ferror(stdout)) {

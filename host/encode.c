@@ -69,20 +69,14 @@ static enum line take_line(unsigned long at, uint8_t *record)
     return LINE_WHOLE;
 }
 
-static const char *meaning(int refusal)
+/* Says why the writer has refused the record of a line; the program's exit status. */
+static int line_refused(unsigned long at, int refusal, const uint8_t *record)
 {
-    switch (refusal) {
-    case OATLANTERN_REFUSED_LENGTH:
-        return "a buffer has the wrong length";
-    case OATLANTERN_REFUSED_TOO_LARGE:
-        return "an index is too large for its field";
-    case OATLANTERN_REFUSED_FALLING:
-        return "the line spectral parameters fall";
-    case OATLANTERN_REFUSED_EXPANSION:
-        return "the expansion bit SP is set";
-    default:
-        return "no such refusal is known";
-    }
+    fprintf(stderr, "%s: line %lu: refused %d: %s", NAME, at, refusal, oatlantern_refusal_words(refusal));
+    if (refusal == OATLANTERN_REFUSED_TOO_LARGE)
+        fprintf(stderr, " (field %d)", oatlantern_too_large(record));
+    fprintf(stderr, "\n");
+    return 1;
 }
 
 /* Says that standard output failed; the program's exit status. */
@@ -117,12 +111,8 @@ int main(int argc, char **argv)
         if (line == LINE_MALFORMED)
             return fflush(stdout) == EOF ? output_failed() : 1;
         result = oatlantern_write_frame(record, sizeof record, frame, sizeof frame);
-        if (oatlantern_is_refused(result)) {
-            int refusal = oatlantern_refusal(result);
-
-            fprintf(stderr, "%s: line %lu: refused %d: %s\n", NAME, at, refusal, meaning(refusal));
-            return fflush(stdout) == EOF ? output_failed() : 1;
-        }
+        if (oatlantern_is_refused(result))
+            return fflush(stdout) == EOF ? output_failed() : line_refused(at, oatlantern_refusal(result), record);
         if (fwrite(frame, 1, sizeof frame, stdout) != sizeof frame)
             return output_failed();
     }

@@ -1,27 +1,70 @@
 #!/bin/sh
-# Tries the host programs, as built and again under the sanitizers (tools.sh says which): there and back, the refusals, malformed and
-# very long lines. Silent but for the last line; exit status 1 at the first fault.
+# Tries the header and the host programs, the latter as built and again under the sanitizers (tools.sh says which): there and back, the
+# refusals, malformed and very long lines. Silent but for the last line; exit status 1 at the first fault.
 set -eu
 cd "$(dirname "$0")"
 . ./tools.sh
 
 out=../target/host
-make -s all
-mkdir -p $out/sanitized
-for p in decode encode; do
-    # the words of $sanitizers are split on purpose
-    $CC -std=c99 -Wall -Wextra -pedantic -Werror -g -O1 $sanitizers \
-        -I../include -o $out/sanitized/oatlantern-$p $p.c ../target/staticlib/libgateway.a
-done
-
 tmp=$(mktemp -d)
 trap 'rm -rf "$tmp"' EXIT
+trap 'exit 1' HUP INT TERM
 checks=0
 
 fail() {
     echo "host/test.sh: $1" >&2
     exit 1
 }
+
+make -s all > "$tmp/log" 2>&1 || { cat "$tmp/log" >&2; fail "make"; }
+mkdir -p $out/sanitized
+# the words of $sanitizers and of other flags are split on purpose
+for p in decode encode; do
+    $CC -std=c99 -Wall -Wextra -pedantic -Werror -g -O1 $sanitizers \
+        -I../include -o $out/sanitized/oatlantern-$p $p.c $out/liboatlantern.a
+done
+
+# The header has no warning, by itself and where every function of it is used, in any version of C or C++ that the compiler knows.
+strict='-Wall -Wextra -pedantic -Wconversion -Wsign-conversion -Wshadow -Wcast-qual -Wundef -Werror'
+plain() { # COMPILER STANDARD FLAGS SUFFIX
+    echo 'int main(void) { return 0; }' > "$tmp/empty.$4"
+    $1 -std="$2" -o "$tmp/empty" "$tmp/empty.$4" 2> "$tmp/log" || return 0
+    echo '#include "oatlantern.h"' > "$tmp/alone.$4"
+    cp test-header.c "$tmp/uses.$4"
+    for f in alone uses; do
+        $1 -std="$2" $strict $3 -I../include -c -o "$tmp/$f.o" "$tmp/$f.$4" > "$tmp/log" 2>&1 && [ ! -s "$tmp/log" ] ||
+            { cat "$tmp/log" >&2; fail "the header, $1 -std=$2"; }
+        checks=$((checks + 1))
+    done
+}
+for standard in c99 c11 c17 c2x; do
+    plain "$CC" $standard '-Wstrict-prototypes -Wmissing-prototypes' c
+done
+for standard in c++98 c++11 c++17 c++20; do
+    command -v "$CXX" > /dev/null || continue
+    plain "$CXX" $standard -Wold-style-cast cpp
+done
+[ $checks -ge 6 ] || fail "the header was compiled in too few versions"
+
+# Its inline functions, in C and in C++, under the sanitizers: against the archive, and against the table of guarded places.
+awk '{
+    field = 0; bit = 0
+    if ($3 ~ /^P[DG]/) { field = 10 + 4 * (substr($3, 4, 1) - 1) + (substr($3, 2, 1) == "D" ? 1 : 2); bit = substr($3, 7) }
+    if ($3 == "SP") field = 27
+    print $1, $2, field, bit
+}' ../outside/tables/guarded.txt > "$tmp/guarded"
+inline() { # COMPILER AND FLAGS
+    $1 $strict -g -O1 $sanitizers -I../include -o "$tmp/test-header" test-header.c -x none $out/liboatlantern.a
+    "$run" "$tmp/test-header" 20000 < "$tmp/guarded" > "$tmp/got" || fail "the inline functions, $1"
+    checks=$((checks + $(cat "$tmp/got")))
+}
+inline "$CC -std=c99"
+if command -v "$CXX" > /dev/null; then inline "$CXX -std=c++11 -Wold-style-cast $cxx_flags -x c++"; fi
+
+# The version is that of the newest entry in the list of changes.
+version=$(sed -n 's/^.define OATLANTERN_VERSION "\(.*\)"$/\1/p' ../include/oatlantern.h)
+[ "$(sed -n 's/^## \([0-9.]*\).*/\1/p' ../CHANGELOG.md | head -n 1)" = "$version" ] || fail "CHANGELOG.md does not begin with $version"
+checks=$((checks + 1))
 
 # same WHAT FILE FILE
 same() {
@@ -105,9 +148,21 @@ for bin in $out $out/sanitized; do
 
     # A part of a frame at the end, after a whole one.
     head -c 25 "$tmp/worked" > "$tmp/part"
-    refused "part of a frame" oatlantern-decode "$tmp/part" 1 'oatlantern-decode: frame 2: refused 1: it has 7 bytes, not 18'
+    refused "part of a frame" oatlantern-decode "$tmp/part" 1 'oatlantern-decode: frame 2: refused 1: the frame is not 18 bytes or the record not 56 (7 bytes are left)'
     echo '0 0 0 0 0 0 0 0 0 0 0 0 0 0 0 0 0 0 0 0 0 0 0 0 0 0 0 0 0 0' > "$tmp/wanted"
     same "the frame before it" "$tmp/wanted" "$tmp/got"
+
+    # What the corrections changed, on standard error; the lines are the same.
+    cp "$tmp/worked" "$tmp/in"
+    "$run" "$bin/oatlantern-decode" < "$tmp/in" > "$tmp/read"
+    "$run" "$bin/oatlantern-decode" -v < "$tmp/in" > "$tmp/got" 2> "$tmp/said"
+    same "-v: the lines" "$tmp/read" "$tmp/got"
+    {
+        echo 'oatlantern-decode: frame 2: correction number 15: bit 0 of field 27 was inverted'
+        echo 'oatlantern-decode: frame 3: correction number 6: bit 7 of field 11 was inverted'
+        echo 'oatlantern-decode: frame 4: correction number 1: no index was changed'
+    } > "$tmp/wanted"
+    same "-v: the corrections" "$tmp/wanted" "$tmp/said"
 
     # Refused and malformed lines, each as line 2 after a sound one: only the first frame is written.
     sound='0 0 0 0 0 0 0 0 0 0 0 0 0 0 0 0 0 0 0 0 0 0 0 0 0 0 0 0'
@@ -118,13 +173,13 @@ for bin in $out $out/sanitized; do
         same "$1: only the line before it is written" "$tmp/first" "$tmp/got"
     }
     large='refused 2: an index is too large for its field'
-    bad '8 0 0 0 0 0 0 0 0 0 0 0 0 0 0 0 0 0 0 0 0 0 0 0 0 0 0 0' "$large"
-    bad '0 0 0 0 0 0 0 0 0 0 256 0 0 0 0 0 0 0 0 0 0 0 0 0 0 0 0 0' "$large"
-    bad '0 0 0 0 0 0 0 0 0 0 0 0 0 0 0 0 0 0 0 0 0 0 0 0 0 0 0 2' "$large"
-    bad '0 0 0 0 0 0 0 0 0 0 0 0 0 0 0 0 0 0 0 0 0 0 0 0 0 0 2 0' "$large"
-    bad '65536 0 0 0 0 0 0 0 0 0 0 0 0 0 0 0 0 0 0 0 0 0 0 0 0 0 0 0' "$large"
-    bad '4294967296 0 0 0 0 0 0 0 0 0 0 0 0 0 0 0 0 0 0 0 0 0 0 0 0 0 0 0' "$large"
-    bad '18446744073709551616 0 0 0 0 0 0 0 0 0 0 0 0 0 0 0 0 0 0 0 0 0 0 0 0 0 0 0' "$large"
+    bad '8 0 0 0 0 0 0 0 0 0 0 0 0 0 0 0 0 0 0 0 0 0 0 0 0 0 0 0' "$large (field 1)"
+    bad '0 0 0 0 0 0 0 0 0 0 256 0 0 0 0 0 0 0 0 0 0 0 0 0 0 0 0 2' "$large (field 11)"
+    bad '0 0 0 0 0 0 0 0 0 0 0 0 0 0 0 0 0 0 0 0 0 0 0 0 0 0 0 2' "$large (field 28)"
+    bad '0 0 0 0 0 0 0 0 0 0 0 0 0 0 0 0 0 0 0 0 0 0 0 0 0 0 2 0' "$large (field 27)"
+    bad '65536 0 0 0 0 0 0 0 0 0 0 0 0 0 0 0 0 0 0 0 0 0 0 0 0 0 0 0' "$large (field 1)"
+    bad '0 4294967296 0 0 0 0 0 0 0 0 0 0 0 0 0 0 0 0 0 0 0 0 0 0 0 0 0 0' "$large (field 2)"
+    bad '0 0 18446744073709551616 0 0 0 0 0 0 0 0 0 0 0 0 0 0 0 0 0 0 0 0 0 0 0 0 0' "$large (field 3)"
     bad '7 0 0 0 0 0 0 0 0 0 0 0 0 0 0 0 0 0 0 0 0 0 0 0 0 0 0 0' 'refused 3: the line spectral parameters fall'
     bad '7 0 0 0 0 0 0 0 0 0 0 0 0 0 0 0 0 0 0 0 0 0 0 0 0 0 1 0' 'refused 3: the line spectral parameters fall'
     bad '0 0 0 0 0 0 0 0 0 0 0 0 0 0 0 0 0 0 0 0 0 0 0 0 0 0 1 0' 'refused 6: the expansion bit SP is set'
@@ -146,15 +201,17 @@ for bin in $out $out/sanitized; do
     "$run" "$bin/oatlantern-encode" < "$tmp/in" > "$tmp/again"
     same "a million spaces" "$tmp/first" "$tmp/again"
     { head -c 1000000 /dev/zero | tr '\0' 9; echo " ${sound#0 }"; } > "$tmp/in"
-    refused "a million digits" oatlantern-encode "$tmp/in" 1 "oatlantern-encode: line 1: $large"
+    refused "a million digits" oatlantern-encode "$tmp/in" 1 "oatlantern-encode: line 1: $large (field 1)"
     { head -c 1000000 /dev/zero | tr '\0\n' '0 ' | sed 's/0/0 /g'; echo; } > "$tmp/in"
     refused "a million numbers" oatlantern-encode "$tmp/in" 1 'oatlantern-encode: line 1: malformed: 1000000 numbers, not 28 or 30'
 
     # Arguments, and an output that takes nothing.
-    for p in decode encode; do
+    for p in 'decode --what' 'decode -v -v' 'decode -v --what' 'encode --what' 'encode -v'; do
         status=0
-        "$run" "$bin/oatlantern-$p" --what < /dev/null > "$tmp/got" 2> "$tmp/said" || status=$?
-        [ $status -eq 2 ] && [ ! -s "$tmp/got" ] || fail "$bin: $p with an argument: status $status"
+        # the words are split on purpose
+        "$run" "$bin"/oatlantern-$p < /dev/null > "$tmp/got" 2> "$tmp/said" || status=$?
+        [ $status -eq 2 ] && [ ! -s "$tmp/got" ] || fail "$bin: $p: status $status"
+        grep -q '^usage: oatlantern-' "$tmp/said" || fail "$bin: $p: no usage"
         checks=$((checks + 1))
     done
     if [ -e /dev/full ]; then

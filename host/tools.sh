@@ -1,6 +1,6 @@
-# For the scripts that build C programs on the archive, which is for x86-64: the compilers, the sanitizers and what runs a program.
-# On another machine they are Debian's cross compilers (gcc-x86-64-linux-gnu, g++-x86-64-linux-gnu) and the kit's emulator, under which
-# the address sanitizer cannot run; the undefined-behaviour sanitizer stays. CC and CXX may be set.
+# For the Makefile and the scripts that build C programs on the archive, which is for x86-64: the compilers, the sanitizers and what runs
+# a program. On another machine they are Debian's cross compilers (gcc-x86-64-linux-gnu, g++-x86-64-linux-gnu) and the kit's emulator,
+# under which the address sanitizer cannot run; the undefined-behaviour sanitizer stays. CC and CXX may be set.
 root=$(pwd)
 while [ ! -f "$root/crates.txt" ]; do root=$(dirname "$root"); done
 run=$root/run
@@ -18,9 +18,10 @@ esac
 cxx_flags='-static-libstdc++ -static-libgcc'
 export CC CXX
 
-# the archive: OATLANTERN_ARCHIVE, a file or the folder that it is in, or the one that rt writes
-archive=${OATLANTERN_ARCHIVE:-$root/target/staticlib}
+# the archive: OATLANTERN_ARCHIVE, a file or the folder that it is in, or the one that the Makefile makes, from the source as it stands
+archive=${OATLANTERN_ARCHIVE:-$root/target/host/liboatlantern.a}
 [ -d "$archive" ] && archive=$archive/libgateway.a
 need_archive() {
-    [ -f "$archive" ] || { echo "$archive is not there: run \`rt staticlib gateway\` at the repository's root" >&2; exit 1; }
+    [ -n "${OATLANTERN_ARCHIVE:-}" ] || make -s -C "$root/host" archive || exit 1
+    [ -f "$archive" ] || { echo "$archive is not there" >&2; exit 1; }
 }

@@ -1,18 +1,20 @@
 /*
  * oatlantern.h - 4,800 bit/s voice frames (Federal Standard 1016) for C and C++
  *
- * Two functions. One reads an 18-byte frame into a record of 28 indices and
- * mends what the frame's parity can mend. The other writes such a record into
- * an 18-byte frame. Link with the archive liboatlantern.a; there is nothing to
- * set up and nothing to release.
+ * Two functions of the archive liboatlantern.a. One reads an 18-byte frame into
+ * a record of 28 indices and mends what the frame's parity can mend. The other
+ * writes such a record into an 18-byte frame. There is nothing to set up and
+ * nothing to release. Small functions below, all inline, take results and
+ * records apart.
  *
  *     uint8_t frame[OATLANTERN_FRAME_BYTES];
  *     uint8_t record[OATLANTERN_RECORD_BYTES];
  *     int32_t result = oatlantern_read_frame(frame, sizeof frame, record, sizeof record);
  *     if (oatlantern_is_refused(result))
- *         printf("refused %d\n", oatlantern_refusal(result));
+ *         printf("refused %d: %s\n", oatlantern_refusal(result),
+ *                oatlantern_refusal_words(oatlantern_refusal(result)));
  *     else
- *         printf("PD of subframe 1 is %u, correction number %d, order mark %d\n",
+ *         printf("PD of subframe 1 is %d, correction number %d, order mark %d\n",
  *                oatlantern_get_index(record, OATLANTERN_PD_1),
  *                oatlantern_number(result), oatlantern_mark(result));
  *
@@ -33,6 +35,19 @@
  * Threads. The functions keep no state and allocate nothing. Any number of
  * threads may call them at once on buffers of their own, and many may share a
  * buffer that all of them only read. They may be called from a signal handler.
+ *
+ * What stays
+ *
+ * Within a major version each name of this header keeps its meaning and each
+ * number its value: sizes, fields, widths, the order of the bytes, correction
+ * numbers, marks, refusals. What compiles and links goes on doing so, and the
+ * same bytes get the same answer.
+ *
+ * A minor version may add names (all begin with oatlantern_ or OATLANTERN_),
+ * and it may set bits of the reader's result from 256 up, which are reserved.
+ * So a caller takes results apart by the functions below, takes every result
+ * below 0 for a refusal, and looks at no other bit. CHANGELOG.md has the
+ * changes of each version.
  */
 #ifndef OATLANTERN_H
 #define OATLANTERN_H
@@ -43,6 +58,13 @@
 #ifdef __cplusplus
 extern "C" {
 #endif
+
+/* ---- The version of this header ---- */
+
+#define OATLANTERN_VERSION_MAJOR 1
+#define OATLANTERN_VERSION_MINOR 0
+#define OATLANTERN_VERSION_PATCH 0
+#define OATLANTERN_VERSION "1.0.0"
 
 /* ---- Sizes ---- */
 
@@ -128,29 +150,43 @@ enum oatlantern_field {
  *
  * oatlantern_read_frame reads the frame and puts its record into `record`.
  *
- *     0 or more   the frame was read: 16 times the order mark plus the
- *                 correction number, at most 159. All 56 bytes of the record
- *                 have been written, each index within the width of its field.
+ *     0 or more   the frame was read. All 56 bytes of the record have been
+ *                 written, each index within the width of its field. The
+ *                 lowest four bits of the result are the correction number,
+ *                 the next four the order mark: oatlantern_number and
+ *                 oatlantern_mark take them out. The bits above, from 256 up,
+ *                 are reserved. They are 0 in this version.
  *     -1          frame_len is not 18 or record_len is not 56.
  *
  * Any 18 bytes are a frame and have a reading. Whether to use it is the
  * caller's choice, by the two numbers in the result:
  *
- * The correction number (0 to 15) tells what the parity found.
- *     0           clean: nothing was changed.
- *     1, 2, 4, 8  one of the four parity bits was hit: no index was changed.
- *     the others  one data bit was inverted back before the indices were put
- *                 into the record:
+ * The correction number (0 to 15) tells what the parity says. Fifteen of the
+ * 144 bits are guarded, and each has a number: four parity bits and eleven data
+ * bits.
+ *     0           the parity agrees: nothing was changed.
+ *     1, 2, 4, 8  the number of a parity bit: no index was changed.
+ *     the others  the number of a data bit, which was inverted before the
+ *                 indices were put into the record:
  *                      3  PD_1 bit 5      9  PG_2 bit 4     13  PG_3 bit 4
  *                      5  PD_1 bit 6     10  PD_3 bit 5     14  PG_4 bit 4
  *                      6  PD_1 bit 7     11  PD_3 bit 6     15  SP
  *                      7  PG_1 bit 4     12  PD_3 bit 7
- * These eleven data bits and the four parity bits are the guarded ones. If one
- * of the fifteen was flipped on the way, the eleven are as they were sent. If
- * two were flipped, the number is never 0, so the damage is reported, but it is
- * never mended: the number is that of a third bit, and if that is a data bit,
- * it has been inverted as well. Three or more may give any number, 0 among
- * them. The other 129 bits are not guarded: a flip there is read as it stands.
+ * oatlantern_corrected_field and oatlantern_corrected_bit are this table.
+ *
+ * What is known by it depends on how many of the fifteen were flipped on the
+ * way, which the number does not tell:
+ *     none        the number is 0.
+ *     one         the number is that of the flipped bit. The eleven data bits
+ *                 are as they were sent.
+ *     two         the number is never 0, so the damage is reported, but it is
+ *                 never mended: the number is that of a third bit. If that is
+ *                 a data bit, it is wrong now as well. If it is a parity bit,
+ *                 nothing was inverted and the two stand as they were flipped;
+ *                 both may be data bits. So 1, 2, 4 and 8 do not say that the
+ *                 data bits are right.
+ *     more        any number, 0 among them.
+ * The other 129 bits are not guarded: a flip there is read as it stands.
  *
  * The order mark (0 to 9) tells whether the line spectral parameters rise, by
  * the frequencies that the indices stand for.
@@ -169,14 +205,19 @@ int32_t oatlantern_read_frame(const uint8_t *frame, size_t frame_len, uint8_t *r
  *                 frame gives the same record, with result 0.
  *     -1          frame_len is not 18 or record_len is not 56. This is looked
  *                 at before anything else.
- *     -2          an index is too large for its field (OATLANTERN_WIDTHS).
- *                 The result does not say in which field.
+ *     -2          an index is too large for its field (OATLANTERN_WIDTHS):
+ *                 oatlantern_too_large says for which.
  *     -3          every index fits, but the order mark is not 0.
  *     -6          every index fits and the mark is 0, but SP is 1.
  */
 int32_t oatlantern_write_frame(const uint8_t *record, size_t record_len, uint8_t *frame, size_t frame_len);
 
-/* ---- Results taken apart ---- */
+/*
+ * ---- Results taken apart ----
+ *
+ * `result` is one that a function above gave. Bits that are not named here do
+ * not change what these answer.
+ */
 
 /* Whether a result of either function is a refusal: 1 or 0. */
 static inline int oatlantern_is_refused(int32_t result)
@@ -187,19 +228,92 @@ static inline int oatlantern_is_refused(int32_t result)
 /* The number of the refusal, or 0 where there was none. */
 static inline int oatlantern_refusal(int32_t result)
 {
-    return result < 0 ? (int)-result : 0;
+    return result < 0 ? -result : 0;
+}
+
+/* What a refusal's number says, in a few words without a full stop. Any number has an answer. */
+static inline const char *oatlantern_refusal_words(int refusal)
+{
+    switch (refusal) {
+    case 0:
+        return "not refused";
+    case OATLANTERN_REFUSED_LENGTH:
+        return "the frame is not 18 bytes or the record not 56";
+    case OATLANTERN_REFUSED_TOO_LARGE:
+        return "an index is too large for its field";
+    case OATLANTERN_REFUSED_FALLING:
+        return "the line spectral parameters fall";
+    case OATLANTERN_REFUSED_EXPANSION:
+        return "the expansion bit SP is set";
+    default:
+        return "a refusal that this version does not know";
+    }
 }
 
 /* The order mark in a result of oatlantern_read_frame, or 0 where it is a refusal. */
 static inline int oatlantern_mark(int32_t result)
 {
-    return result < 0 ? 0 : (int)(result / 16);
+    return result < 0 ? 0 : result / 16 % 16;
 }
 
 /* The correction number in a result of oatlantern_read_frame, or 0 where it is a refusal. */
 static inline int oatlantern_number(int32_t result)
 {
-    return result < 0 ? 0 : (int)(result % 16);
+    return result < 0 ? 0 : result % 16;
+}
+
+/* The field of the data bit that a correction number names, or 0 where it names none. Any number has an answer. */
+static inline int oatlantern_corrected_field(int number)
+{
+    switch (number) {
+    case 3:
+    case 5:
+    case 6:
+        return OATLANTERN_PD_1;
+    case 7:
+        return OATLANTERN_PG_1;
+    case 9:
+        return OATLANTERN_PG_2;
+    case 10:
+    case 11:
+    case 12:
+        return OATLANTERN_PD_3;
+    case 13:
+        return OATLANTERN_PG_3;
+    case 14:
+        return OATLANTERN_PG_4;
+    case 15:
+        return OATLANTERN_SP;
+    default:
+        return 0;
+    }
+}
+
+/*
+ * Which bit of that field the number names; bit 0 is the lowest, with weight 1.
+ * It is 0 for SP, which has one bit, and where the number names no data bit:
+ * oatlantern_corrected_field tells these apart.
+ */
+static inline int oatlantern_corrected_bit(int number)
+{
+    switch (number) {
+    case 3:
+    case 10:
+        return 5;
+    case 5:
+    case 11:
+        return 6;
+    case 6:
+    case 12:
+        return 7;
+    case 7:
+    case 9:
+    case 13:
+    case 14:
+        return 4;
+    default:
+        return 0;
+    }
 }
 
 /* ---- Indices of a record. The field is 1 to 28, the record 56 bytes. ---- */
@@ -207,14 +321,31 @@ static inline int oatlantern_number(int32_t result)
 static inline uint16_t oatlantern_get_index(const uint8_t *record, int field)
 {
     const uint8_t *pair = record + OATLANTERN_OFFSET(field);
-    return (uint16_t)(pair[0] | ((unsigned)pair[1] << 8));
+    return (pair[0] | pair[1] << 8) & 0xffff;
 }
 
 static inline void oatlantern_set_index(uint8_t *record, int field, uint16_t index)
 {
     uint8_t *pair = record + OATLANTERN_OFFSET(field);
-    pair[0] = (uint8_t)(index & 0xffu);
-    pair[1] = (uint8_t)(index >> 8);
+    const unsigned value = index;
+    pair[0] = value & 0xff;
+    pair[1] = (value >> 8) & 0xff;
+}
+
+/*
+ * The lowest field whose index is too large for it, or 0 where every index
+ * fits. It is not 0 exactly where oatlantern_write_frame refuses the record
+ * with 2.
+ */
+static inline int oatlantern_too_large(const uint8_t *record)
+{
+    static const uint8_t widths[OATLANTERN_FIELDS] = OATLANTERN_WIDTHS;
+    int field;
+
+    for (field = 1; field <= OATLANTERN_FIELDS; field++)
+        if (oatlantern_get_index(record, field) >> widths[field - 1] != 0)
+            return field;
+    return 0;
 }
 
 #ifdef __cplusplus

@@ -19,8 +19,10 @@ fn main() {
         eprintln!("the archive is for x86-64, and this machine is not: no times can be taken here");
         std::process::exit(1);
     }
-    let given = env::var_os("OATLANTERN_ARCHIVE")
-        .map_or_else(|| here.join("../../target/staticlib"), PathBuf::from);
+    let given = env::var_os("OATLANTERN_ARCHIVE").map_or_else(
+        || here.join("../../target/host/liboatlantern.a"),
+        PathBuf::from,
+    );
     let archive = if given.is_dir() {
         given.join(ARCHIVE)
     } else {
@@ -28,7 +30,7 @@ fn main() {
     };
     if !archive.is_file() {
         eprintln!(
-            "{} is not there: run `rt staticlib gateway` at the repository's root, or set OATLANTERN_ARCHIVE",
+            "{} is not there: run `make -C host archive` at the repository's root, or set OATLANTERN_ARCHIVE",
             archive.display()
         );
         std::process::exit(1);
