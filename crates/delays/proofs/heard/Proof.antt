@@ -6,7 +6,7 @@ use Rattle.delays.proofs.heard.Statement.{statement}
 use Rattle.delays.proofs.heard.Tie as tie
 
 returns : tie.Need-returns
-returns c = four-heard _ (c .before .before .before .heard-pair .ensures) (c .heard-pair2 .ensures)
+returns c = four-heard _ (c .before .before .before .meant-pair .ensures) (c .meant-pair2 .ensures)
 
 pub heard-spec : {M : Type 1} → statement M
 heard-spec =

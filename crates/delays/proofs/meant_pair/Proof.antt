@@ -40,8 +40,8 @@ element-copy-out-t20 c = next-below _ _ (c .before .base .ensures)
 returns : tie.Need-returns
 returns c = pair-heard (c .before .before .before .before .pre .0) _ _ (c .before .before .before .before .pre .1) (c .before .before .base .ensures)
 
-pub heard-pair-spec : {M : Type 1} → statement M
-heard-pair-spec =
+pub meant-pair-spec : {M : Type 1} → statement M
+meant-pair-spec =
     tie.close
     (tie.spec cast-rank element-copy-out-rank cast-base (λ c κs. search needs) add-next cast-t9 mul-t13 element-copy-out-t8 cast-t16 mul-t17
     element-copy-out-t20 returns)
