@@ -1,11 +1,11 @@
 #!/usr/bin/env python3
-"""Makes the recordings of this folder and their listings.
+"""Makes the recordings of this folder, and what is to be said of each.
 
-    make.py PROGRAM            writes each recording, and its listing as PROGRAM prints it
-    make.py --check PROGRAM    compares both with what is stored
+    make.py PROGRAM            writes NAME.rec, NAME.list and NAME.hear
+    make.py --check PROGRAM    compares them with what is stored
 
-PROGRAM is the independent program (outside/target/release/outside), called with the word `list`. The bytes are laid out here, block by
-block and place by place, by the tables of outside/tables; README.md says what is wrong with each recording.
+PROGRAM is the independent program (outside/target/release/outside), called with the word `list` or `hear`. The bytes are laid out here,
+block by block and place by place, by the tables of outside/tables; README.md says what is wrong with each recording.
 """
 
 import subprocess
@@ -118,19 +118,23 @@ def main():
     check, program = sys.argv[1:-1] == ["--check"], sys.argv[-1]
     if len(sys.argv) != 2 + check or program.startswith("--"):
         sys.exit(__doc__)
-    stored = {file.stem for file in HERE.iterdir() if file.suffix in (".rec", ".list")}
+    stored = {file.stem for file in HERE.iterdir() if file.suffix in (".rec", ".list", ".hear")}
     faults = [f"samples/{name}: nothing here makes it" for name in sorted(stored - set(RECORDINGS))]
+    cases = 0
     for name, recording in RECORDINGS.items():
-        listing = subprocess.run([program, "list"], input=recording, stdout=subprocess.PIPE, check=True).stdout
-        for suffix, made in ((".rec", recording), (".list", listing)):
+        made = {".rec": recording}
+        for word in ("list", "hear"):
+            made["." + word] = subprocess.run([program, word], input=recording, stdout=subprocess.PIPE, check=True).stdout
+        for suffix, content in made.items():
             file = HERE / (name + suffix)
+            cases += 1
             if not check:
-                file.write_bytes(made)
-            elif not file.exists() or file.read_bytes() != made:
+                file.write_bytes(content)
+            elif not file.exists() or file.read_bytes() != content:
                 faults.append(f"samples/{file.name}: not what is made")
     for fault in faults:
         print(fault)
-    print(f"{len(faults)} faults, {2 * len(RECORDINGS)} cases")
+    print(f"{len(faults)} faults, {cases} cases")
     sys.exit(1 if faults else 0)
 
 
