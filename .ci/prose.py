@@ -2,7 +2,7 @@
 """Holds numbers and listings in prose to the definitions and to what the programs print.
 
     prose.py                    the programs are those that rt and host/Makefile build
-    prose.py --with PROGRAM     the independent program stands in for `list` and `hear`
+    prose.py --with PROGRAM     the independent program stands in for `list` and `hear`, but where they are given an argument
 
 Listings. In a code block of a page, and in an example of a manual page, a line `$ COMMAND` is followed by what it prints. Each command is
 run and compared (of `rt check NAMES && COMMAND` the second), but those of NOT_RUN, which show nothing, and those of a manual page that
@@ -10,7 +10,8 @@ show nothing. A line that looks like a listing's and follows no command is a fau
 Tables. The handbook's correction numbers, refusals and delays, and the two tables of samples/README.md, are compared with the specs, the
 place table and the files. So are sentences of a regular form: a place with its name, places that show a number, a frame and its time.
 Names. A path or a `crate::name` that the README, the handbook, the samples' page or CHANGING names is there.
-A fault is named by file and line. The last line is `N cases`; the exit is 1 where there is a fault.
+A page that must show a listing and shows none, and a form of sentence that stands nowhere, is a fault too: so that rewording cannot let a
+number go. A fault is named by file and line. The last line is `N cases`; the exit is 1 where there is a fault.
 """
 
 import re
@@ -23,6 +24,7 @@ ROOT = Path(__file__).resolve().parent.parent
 PAGES = ["README.md", "CHANGELOG.md", "docs/*.md", "docs/landings/*.md", "samples/README.md", "outside/*.md"]
 MANUAL = ["host/*.1", "host/*.3"]
 NAMING = ["README.md", "docs/HANDBOOK.md", "docs/CHANGING.md", "samples/README.md"]
+SHOWING = ["README.md", "docs/HANDBOOK.md", "samples/README.md", "host/oatlantern-list.1", "host/oatlantern-decode.1"]
 NOT_RUN = re.compile(r"rt |\.ci/run|cargo |make |cc |git |samples/make\.py |\.ci/prose\.py|python3 ")
 RUN = re.compile(r"(\./run target/\S+|oatlantern-\w+|head|sed -n|cut|od|cmp|diff|printf|echo)\b")
 LISTING = re.compile(r"unit \d+ recording \d+ frames \d+|\d+ \d+ (refused \d+|\d+ [01]( \d+){4})|repaired \d+ breaks \d+|refused \d+ at \d+|frame \d+( \d+){28} .*")
@@ -117,6 +119,7 @@ def file_of(path, command):
     return re.sub(r"(< ?)([\w-]+\.rec)\b", r"\1samples/\2", command) if path.startswith("host/") else command
 
 
+showing = set()
 printed = {line for path in pages(["samples/*.list"]) for line in read(path).splitlines()}
 for path in pages(PAGES) + pages(MANUAL):
     for block in blocks(path):
@@ -134,6 +137,9 @@ for path in pages(PAGES) + pages(MANUAL):
             if not all(RUN.match(part.strip()) for part in command.split("|")):
                 hold(False, path, n, f"`{command}` is not a command that is known here")
                 continue
+            if independent and re.search(r"\b(oatlantern-|target/bin/)(list|hear) +[^<|\s]", command):
+                continue
+            showing.add(path)
             ran = subprocess.run(["sh", "-c", f"({built(file_of(path, command))}) 2>&1"], cwd=ROOT, stdout=subprocess.PIPE)
             got = ran.stdout.decode("utf-8", "replace").splitlines()
             printed.update(got)
@@ -141,6 +147,8 @@ for path in pages(PAGES) + pages(MANUAL):
                 is_shown, is_printed = (said[k] if k < len(said) else "nothing more" for said in (shown, got))
                 hold(is_shown == is_printed, path, block[min(i + 1 + k, j - 1)][0], f"shows `{is_shown}`, but `{command}` prints `{is_printed}`")
 
+for path in SHOWING:
+    hold(path in showing, path, 1, "shows no listing that could be compared")
 for path in pages(PAGES) + pages(MANUAL):
     for n, line in lines_of(path):
         for said in re.findall(r"refused \d+ at \d+", line):
@@ -149,8 +157,6 @@ for path in pages(PAGES) + pages(MANUAL):
             hold(any(int(number) in numbers for numbers in REFUSALS.values()), path, n, f"there is no refusal {number}")
         if "1, 2, 4" in line:
             hold([n for n, name in enumerate(GUARDED, 1) if name.startswith("HP")] == [1, 2, 4, 8], path, n, "the parity bits have other numbers")
-        for number in re.findall(r"(?:at most|[mM]ore than) ([\d,]+) bytes", line):
-            hold(int(number.replace(",", "")) == LONGEST, path, n, f"a recording has at most {LONGEST} bytes, not {number}")
 
 # the names that C has for refusals, in the header and on its page
 IN_C = {"LENGTH": "WrongLength", "TOO_LARGE": "TooLarge", "FALLING": "Falling", "EXPANSION": "Expansion"}
@@ -222,24 +228,40 @@ for n, cells in table(BOOK, "| twelfths | samples |"):
 # ---- Sentences of a regular form ----
 
 WORDS = ("none", "one", "two", "three", "four", "five", "six", "seven", "eight")
-pairs = {n: sum(a ^ b == n for a, b in combinations(range(1, 16), 2)) for n in range(1, 16)}
-for path in pages(PAGES):
-    for n, line in lines_of(path):
-        for place, name in re.findall(r"\b(\d+) \(((?:PD|PG|CI|CG)\(\d\)-\d|LSP \d+-\d|HP-\d|SP|SY)\)", line):
-            hold(PLACES[int(place) - 1] == name, path, n, f"place {place} is {PLACES[int(place) - 1]}, not {name}")
-        for said, number in re.findall(r"[Tt]he places ((?:(?!places).){1,60}?),?(?: which)? show number (\d+)", line):
-            shows = 0
-            for place in re.findall(r"\d+", re.sub(r"\((?:PD|PG|CI|CG)\(\d\)-\d\)|\(\w+-\d\)", "", said)):
-                shows ^= NUMBER.get(int(place), 0)
-            hold(shows == int(number), path, n, f"the places {said} show number {shows}, not {number}")
-        for frame, seconds in re.findall(r"frame (\d+) begins ([\d.]+) seconds", line):
-            hold(abs((int(frame) - 1) * 0.03 - float(seconds)) < 0.001, path, n, f"frame {frame} does not begin at {seconds} s")
-        for frames in re.findall(r"room for ([\d,]+) frames", line):
-            hold(int(frames.replace(",", "")) == (LONGEST - 30) // 18, path, n, f"room for {(LONGEST - 30) // 18} frames")
-        for count in re.findall(r"any of (\w+) pairs of hit places", line):
-            hold(set(pairs.values()) == {WORDS.index(count)}, path, n, f"each number comes from {set(pairs.values())} pairs")
-        for count in re.findall(r"\b(\d+) of the 144 places of a frame are not guarded", line):
-            hold(int(count) == 144 - len(GUARDED), path, n, f"{144 - len(GUARDED)} places are not guarded")
+NAME = r"(?:PD|PG|CI|CG)\(\d\)-\d|LSP \d+-\d|HP-\d|SP|SY"
+pairs = {sum(a ^ b == n for a, b in combinations(range(1, 16), 2)) for n in range(1, 16)}
+
+
+def whole(said):
+    return int(said.replace(",", ""))
+
+
+def shown_by(said):
+    """The number that flips of the places named in a sentence show."""
+    number = 0
+    for place in re.findall(r"\d+", re.sub(rf"\((?:{NAME})\)", "", said)):
+        number ^= NUMBER.get(int(place), 0)
+    return number
+
+
+# a form, and what is true in its place
+SENTENCES = [
+    (rf"\b(\d+) \(({NAME})\)", lambda place, name: PLACES[int(place) - 1] == name),
+    (r"[Tt]he places ((?:(?!places).){1,60}?),?(?: which)? show number (\d+)", lambda said, number: shown_by(said) == int(number)),
+    (r"frame (\d+) begins ([\d.]+) seconds", lambda frame, seconds: abs((int(frame) - 1) * 0.03 - float(seconds)) < 0.001),
+    (r"room for ([\d,]+) frames", lambda frames: whole(frames) == (LONGEST - 30) // 18),
+    (r"any of (\w+) pairs of hit places", lambda count: pairs == {WORDS.index(count)}),
+    (r"\b(\d+) of the 144 places of a frame are not guarded", lambda count: int(count) == 144 - len(GUARDED)),
+    (r"(?:at most|[mM]ore than) ([\d,]+) bytes", lambda most: whole(most) == LONGEST),
+]
+for form, holds in SENTENCES:
+    found = 0
+    for path in pages(PAGES) + pages(MANUAL):
+        for n, line in lines_of(path):
+            for m in re.finditer(form, line):
+                found += 1
+                hold(holds(*m.groups()), path, n, f"`{m[0]}` is not so")
+    hold(found, BOOK, 1, f"no page has a sentence of the form {form}")
 
 
 # ---- The samples' page ----
