@@ -27,7 +27,8 @@ NAMING = ["README.md", "docs/HANDBOOK.md", "docs/CHANGING.md", "samples/README.m
 SHOWING = ["README.md", "docs/HANDBOOK.md", "samples/README.md", "host/oatlantern-list.1", "host/oatlantern-decode.1"]
 NOT_RUN = re.compile(r"rt |\.ci/run|cargo |make |cc |git |samples/make\.py |\.ci/prose\.py|python3 ")
 RUN = re.compile(r"(\./run target/\S+|oatlantern-\w+|head|sed -n|cut|od|cmp|diff|printf|echo)\b")
-LISTING = re.compile(r"unit \d+ recording \d+ frames \d+|\d+ \d+ (refused \d+|\d+ [01]( \d+){4})|repaired \d+ breaks \d+|refused \d+ at \d+|frame \d+( \d+){28} .*")
+LISTING = re.compile(r"unit \d+ recording \d+ frames \d+|\d+ \d+ (refused \d+|\d+ [01]( \d+){4})|repaired \d+ breaks \d+|refused \d+ at \d+"
+                     r"|frame \d+( \d+){28} .*")
 independent = Path(sys.argv[2]).resolve() if sys.argv[1:2] == ["--with"] else None
 cases, faults = 0, []
 
@@ -229,6 +230,8 @@ for n, cells in table(BOOK, "| twelfths | samples |"):
 
 WORDS = ("none", "one", "two", "three", "four", "five", "six", "seven", "eight")
 NAME = r"(?:PD|PG|CI|CG)\(\d\)-\d|LSP \d+-\d|HP-\d|SP|SY"
+VOICE = {n for n, name in enumerate(GUARDED, 1) if name[:2] in ("PD", "PG")}
+left_wrong = min(len({a, b, a ^ b} & VOICE) for a, b in combinations(range(1, 16), 2))
 pairs = {sum(a ^ b == n for a, b in combinations(range(1, 16), 2)) for n in range(1, 16)}
 
 
@@ -251,6 +254,7 @@ SENTENCES = [
     (r"frame (\d+) begins ([\d.]+) seconds", lambda frame, seconds: abs((int(frame) - 1) * 0.03 - float(seconds)) < 0.001),
     (r"room for ([\d,]+) frames", lambda frames: whole(frames) == (LONGEST - 30) // 18),
     (r"any of (\w+) pairs of hit places", lambda count: pairs == {WORDS.index(count)}),
+    (r"[Tt]wo hits among the fifteen always leave at least (\w+) bit of the voice wrong", lambda count: left_wrong == WORDS.index(count)),
     (r"\b(\d+) of the 144 places of a frame are not guarded", lambda count: int(count) == 144 - len(GUARDED)),
     (r"(?:at most|[mM]ore than) ([\d,]+) bytes", lambda most: whole(most) == LONGEST),
 ]
