@@ -256,6 +256,7 @@ SENTENCES = [
     (r"any of (\w+) pairs of hit places", lambda count: pairs == {WORDS.index(count)}),
     (r"[Tt]wo hits among the fifteen always leave at least (\w+) bit of the voice wrong", lambda count: left_wrong == WORDS.index(count)),
     (r"\b(\d+) of the 144 places of a frame are not guarded", lambda count: int(count) == 144 - len(GUARDED)),
+    (r"`samples/([\w-]+)\.rec`[^`.]*?(\d+) breaks?\b", lambda name, count: read(f"samples/{name}.list").rstrip().endswith(f" breaks {count}")),
     (r"(?:at most|[mM]ore than) ([\d,]+) bytes", lambda most: whole(most) == LONGEST),
 ]
 for form, holds in SENTENCES:
