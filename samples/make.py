@@ -1,0 +1,142 @@
+#!/usr/bin/env python3
+"""Makes the recordings of this folder, and what is to be said of each.
+
+    make.py PROGRAM            writes NAME.rec, NAME.list and NAME.hear
+    make.py --check PROGRAM    compares them with what is stored
+
+PROGRAM is the independent program (outside/target/release/outside), called with the word `list` or `hear`. The bytes are laid out here,
+block by block and place by place, by the tables of outside/tables; README.md says what is wrong with each recording.
+"""
+
+import subprocess
+import sys
+from pathlib import Path
+
+HERE = Path(__file__).resolve().parent
+TABLES = HERE.parent / "outside/tables"
+PLACES = (TABLES / "places.txt").read_text(encoding="utf-8").split("\n")[:144]
+GUARDED = [line.split(" ", 2) for line in (TABLES / "guarded.txt").read_text(encoding="utf-8").splitlines()]
+RANKS = [line.split() for line in (TABLES / "codes.txt").read_text(encoding="utf-8").splitlines()]
+
+
+# A block: the payload's length, the kind, the payload. Every number has its lowest byte first.
+def number(n, size=4):
+    return n.to_bytes(size, "little")
+
+
+def block(kind, payload, length=None):
+    return number(len(payload) if length is None else length) + number(kind, 2) + payload
+
+
+def head(unit, recording):
+    return block(1, number(unit) + number(recording))
+
+
+def voice(*frames, length=None):
+    return block(2, b"".join(frames), length)
+
+
+def end(frames):
+    return block(3, number(frames))
+
+
+# A frame: place 1 is the top bit of byte 0, place 144 the lowest bit of byte 17.
+def only(*places):
+    bits = sum(1 << (144 - place) for place in places)
+    return bits.to_bytes(18, "big")
+
+
+def flipped(frame, *places):
+    return bytes(a ^ b for a, b in zip(frame, only(*places)))
+
+
+def frame(lsps, ranks, gains, codes, sy):
+    """The frame of ten LSP indices, four ranks of delays, four pairs PG and CG, four codes, and SY; SP is 0."""
+    fields = {f"LSP {j}": index for j, index in enumerate(lsps, 1)} | {"SP": 0, "SY": sy}
+    for n, (rank, (pg, cg), code) in enumerate(zip(ranks, gains, codes), 1):
+        base = min(max(ranks[n - 2] - 31, 0), 192)
+        delay = int(RANKS[rank][2]) if n % 2 == 1 else rank - base
+        fields |= {f"PD({n})": delay, f"PG({n})": pg, f"CI({n})": code, f"CG({n})": cg}
+    parity = 0
+    for n, place, name in GUARDED:
+        field, _, bit = name.partition("-")
+        if field != "HP" and fields[field] >> int(bit or 0) & 1:
+            parity ^= int(n)
+    def bit_of(name):
+        field, _, bit = name.partition("-")
+        return (parity if field == "HP" else fields[field]) >> int(bit or 0) & 1
+    return only(*(place for place, name in enumerate(PLACES, 1) if bit_of(name)))
+
+
+# Two frames: nothing set; and only places 104 and 144 set.
+ZERO, HIT = bytes(18), only(104, 144)
+HEAD, VOICE, END = head(7, 1), voice(ZERO, HIT), end(2)
+
+# Six frames as a radio holds them, each with its own delays; SY goes 0, 1, 0, 1, 0, 1.
+SPOKEN = [frame((3, 3, 3, 3, 3, 3, 3, 3, 3, 3), (110 + 2 * k, 111 + 2 * k, 112 + 2 * k, 111 + 2 * k),
+                ((20, 18), (21, 18), (20, 17), (19, 17)), (40 + k, 130 + k, 255 - k, 7 * k), k % 2) for k in range(6)]
+
+
+def told(*frames):
+    return head(12, 345) + voice(*frames) + end(len(frames))
+
+
+def hit(**places):
+    """The six frames with places of some flipped: f3=(104, 21) flips two of the third."""
+    return told(*(flipped(spoken, *places.get(f"f{k}", ())) for k, spoken in enumerate(SPOKEN, 1)))
+
+
+RECORDINGS = {
+    # sound
+    "sound": HEAD + VOICE + END,
+    "two-blocks": HEAD + voice(ZERO) + voice(HIT) + END,
+    "expansion": HEAD + voice(only(21, 51, 94, 134, 104), HIT) + END,
+    "count": hit(),
+    "lost-frame": told(*SPOKEN[:2], *SPOKEN[3:]),
+    "two-lost": told(*SPOKEN[:2], *SPOKEN[4:]),
+    "sync-hit": hit(f3=(144,)),
+    "mark": hit(f3=(PLACES.index("LSP 4-3") + 1,)),
+    "two-hits": hit(f3=(31, 72)),
+    "refused-frame": hit(f3=(104, 21)),
+    "sent": hit(f2=(61,), f5=(PLACES.index("PD(1)-3") + 1,)),
+    "sent-again": hit(f4=(11, 61)),
+    # refused
+    "empty": b"",
+    "cut": (HEAD + VOICE + END)[:59],
+    "dropped": (HEAD + VOICE + END)[:44],
+    "bad-length": HEAD + voice(ZERO, HIT, length=100) + END,
+    "wrong-size": HEAD + voice((ZERO + HIT)[:35]) + END,
+    "unknown-kind": HEAD + block(4, ZERO + HIT) + END,
+    "out-of-turn": HEAD + HEAD + VOICE + END,
+    "no-end": HEAD + VOICE,
+    "wrong-count": HEAD + VOICE + end(3),
+    "after-the-end": HEAD + VOICE + END + b"\0",
+}
+
+
+def main():
+    check, program = sys.argv[1:-1] == ["--check"], sys.argv[-1]
+    if len(sys.argv) != 2 + check or program.startswith("--"):
+        sys.exit(__doc__)
+    stored = {file.stem for file in HERE.iterdir() if file.suffix in (".rec", ".list", ".hear")}
+    faults = [f"samples/{name}: nothing here makes it" for name in sorted(stored - set(RECORDINGS))]
+    cases = 0
+    for name, recording in RECORDINGS.items():
+        made = {".rec": recording}
+        for word in ("list", "hear"):
+            made["." + word] = subprocess.run([program, word], input=recording, stdout=subprocess.PIPE, check=True).stdout
+        for suffix, content in made.items():
+            file = HERE / (name + suffix)
+            cases += 1
+            if not check:
+                file.write_bytes(content)
+            elif not file.exists() or file.read_bytes() != content:
+                faults.append(f"samples/{file.name}: not what is made")
+    for fault in faults:
+        print(fault)
+    print(f"{len(faults)} faults, {cases} cases")
+    sys.exit(1 if faults else 0)
+
+
+if __name__ == "__main__":
+    main()
