@@ -17,6 +17,7 @@ use Rattle.laws.specs.Total.{bit, fromBits}
 pub shr-zero-below : (x w : ℕ) → x / 2 ^ w ≡ 0 → x < 2 ^ w
 shr-zero-below x w e = subst (λ (m : ℕ). x < m) (one-mul (2 ^ w)) (div-lt-iff-lt-mul (pow-pos w) .0 (omega (arith, e)))
 
+-- and of a number below 2 to the w nothing is left
 pub below-shr-zero : (x w : ℕ) → x < 2 ^ w → x / 2 ^ w ≡ 0
 below-shr-zero x w h =
     let l : x / 2 ^ w < 1 = div-lt-iff-lt-mul (pow-pos w) .1 (subst (λ (m : ℕ). x < m) (sym (one-mul (2 ^ w))) h) in
@@ -26,6 +27,7 @@ below-shr-zero x w h =
 pub shr-zero-test : (x w : ℕ) → x / 2 ^ w ≡ 0 → leb (2 ^ w) x ≡ false
 shr-zero-test x w e = lt-leb (2 ^ w) x (shr-zero-below x w e)
 
+-- something is left of it: the test says so
 pub shr-left-test : (x w : ℕ) → (x / 2 ^ w ≡ 0 → ⊥) → leb (2 ^ w) x ≡ true
 shr-left-test x w n = le-leb (2 ^ w) x (go (decLe (2 ^ w) x))
   where
@@ -51,6 +53,7 @@ fromBits-lt f (suc w) h =
     go (suc zero) b a = omega (arith, pow-suc 2 w)
     go (suc (suc x)) b a = absurd (omega arith)
 
+-- equal bits make equal numbers
 pub fromBits-cong : (f g : ℕ → ℕ) (w : ℕ) → ((i : ℕ) → i < w → f i ≡ g i) → fromBits f w ≡ fromBits g w
 unfolding fromBits
 fromBits-cong f g zero h = refl
@@ -85,6 +88,7 @@ bit-fromBits f (suc w) (suc i) h l =
         let b = h 0 (omega arith) in
         rw a (omega arith)
 
+-- no bits make 0
 none : (f : ℕ → ℕ) → fromBits f 0 ≡ 0
 unfolding fromBits
 none f = refl
@@ -143,6 +147,7 @@ bit-xor x y i = rw (xor-shr x y i) (lowest-bit (x / 2 ^ i) (y / 2 ^ i))
 pub bit-zero : (i : ℕ) → bit 0 i ≡ 0
 bit-zero i = rw (zero-div (2 ^ i))
 
+-- bit k of 2 to the k is 1
 pub bit-pow : (k : ℕ) → bit (2 ^ k) k ≡ 1
 bit-pow zero = refl
 bit-pow (suc k) = bit-suc (2 ^ suc k) k ∙ ap (λ (n : ℕ). bit n k) half ∙ bit-pow k
@@ -150,6 +155,7 @@ bit-pow (suc k) = bit-suc (2 ^ suc k) k ∙ ap (λ (n : ℕ). bit n k) half ∙ 
     half : 2 ^ suc k / 2 ≡ 2 ^ k
     half = omega (arith, pow-suc 2 k)
 
+-- every other bit of it is 0
 pub bit-pow-other : (k i : ℕ) → (i ≡ k → ⊥) → bit (2 ^ k) i ≡ 0
 bit-pow-other zero zero e = absurd (e refl)
 bit-pow-other zero (suc i) e = bit-suc 1 i ∙ bit-zero i

@@ -25,10 +25,12 @@ module _ {n : ℕ} {owner rank : ℕ → ℕ} {f w : ℕ} {place : ℕ → ℕ} 
   part : ℕ → ℕ → ℕ
   part v q = cond (both (eqb (owner q) f) (ltb (rank q) v)) (b q * 2 ^ rank q) 0
 
+  -- a place of the number whose bit is below v counts with its weight
   part-in : (v q : ℕ) → owner q ≡ f → rank q < v → part v q ≡ b q * 2 ^ rank q
   unfolding part
   part-in v q e h = rw (eq-eqb (owner q) f e, lt-ltb (rank q) v h)
 
+  -- one whose bit is not below v counts nothing
   part-above : (v q : ℕ) → v ≤ rank q → part v q ≡ 0
   unfolding part
   part-above v q h = rw (le-ltb (rank q) v h) (go (eqb (owner q) f))
@@ -37,6 +39,7 @@ module _ {n : ℕ} {owner rank : ℕ → ℕ} {f w : ℕ} {place : ℕ → ℕ} 
       go true = refl
       go false = refl
 
+  -- nor does a place of another number
   part-other : (v q : ℕ) → (owner q ≡ f → ⊥) → part v q ≡ 0
   unfolding part
   part-other v q e = rw (ne-eqb (owner q) f e)
@@ -59,6 +62,7 @@ module _ {n : ℕ} {owner rank : ℕ → ℕ} {f w : ℕ} {place : ℕ → ℕ} 
       mine (yes o) = under o (decLt (rank q) v)
       mine (no o) = part-other v q o ∙ sym (part-other (suc v) q o)
 
+  -- the sum of the bits below v is the number with those bits
   upTo : (v : ℕ) → v ≤ w → total (part v) n ≡ fromBits (λ i. b (place i)) v
   unfolding fromBits
   upTo zero h =

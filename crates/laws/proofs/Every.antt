@@ -9,11 +9,13 @@ use lib.Dec.{T}
 use lib.ListN.{length, getD}
 use Rattle.laws.specs.Table.{both, every}
 
+-- two tests that pass, pass together
 pub both-of : (a b : Bool) → T a → T b → T (both a b)
 both-of true b s t = t
 both-of false b s t = s
 
 module _ {A : Type 0} (d : A) (f : ℕ → A → Bool) where
+  -- the same for entries numbered from i on
   from : (xs : List A) (i : ℕ) → ((k : ℕ) → k < length xs → T (f (i + k) (getD xs k d))) → T (every f i xs)
   from [] i p = tt
   from (x ∷ xs) i p =

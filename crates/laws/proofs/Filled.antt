@@ -17,9 +17,11 @@ pub record Filled {A : Type 0} (d : A) (f : ℕ → A) (n i : ℕ) (l : List A) 
   pub here : (k : ℕ) → k < i → getD l k d ≡ f k
 
 module _ {A : Type 0} (d : A) (f : ℕ → A) (n : ℕ) where
+  -- before the first turn no place is filled
   pub filled-none : (l : List A) → length l ≡ n → Filled d f n 0 l
   filled-none l e = record { long = e; upto = omega arith; here = λ k h. absurd (omega arith) }
 
+  -- a turn that stores f i at place i fills one place more
   pub filled-more : (i : ℕ) (l : List A) (v : A) → Filled d f n i l → i < n → v ≡ f i → Filled d f n (i + 1) (set l i v)
   filled-more i l v p h e = record { long = length-set l i v ∙ p .long; upto = omega arith; here = here′ }
     where
@@ -31,6 +33,7 @@ module _ {A : Type 0} (d : A) (f : ℕ → A) (n : ℕ) where
       here′ : (k : ℕ) → k < i + 1 → getD (set l i v) k d ≡ f k
       here′ k q = here″ k q (ℕ-discrete k i)
 
+  -- with all places filled, the list is that of f
   pub filled-all : (l : List A) → Filled d f n n l → l ≡ tabulate f n
   filled-all l p = sym (tabulate-is f d l n (p .long) (λ k h. sym (p .here k h)))
 
@@ -43,11 +46,14 @@ module _ {A : Type 0} (d : A) (part : List A) where
   abbrev pub Copied : ℕ → List A → Type 0
   Copied k out = Filled d (λ (m : ℕ). getD part m d) (length part) k out
 
+  -- before the first turn nothing is copied
   pub copied-none : (out : List A) → length out ≡ length part → Copied 0 out
   copied-none out e = filled-none _ _ _ out e
 
+  -- a turn that stores the list's own entry copies one place more
   pub copied-more : {k : ℕ} {out : List A} (v : A) → Copied k out → k < length part → v ≡ getD part k d → Copied (k + 1) (set out k v)
   copied-more {k} {out} v p h e = filled-more _ _ _ k out v p h e
 
+  -- at the end the two lists are the same
   pub copied-all : {k : ℕ} {out : List A} → Copied k out → length part ≤ k → out ≡ part
   copied-all {k} {out} p h = filled-done _ _ _ out h p ∙ own-entries d part (length part) refl

@@ -9,6 +9,7 @@ use lib.ListN.{length, getD}
 use Rattle.laws.specs.Total.{total}
 use Rattle.laws.proofs.Total.{total-cong}
 
+-- a sum's first part taken out
 pub total-first : (f : ℕ → ℕ) (n : ℕ) → total f (suc n) ≡ f 1 + total (λ k. f (suc k)) n
 unfolding total
 total-first f zero = omega arith
@@ -17,6 +18,7 @@ total-first f (suc n) = let h = total-first f n in omega (arith, h)
 -- a count that goes through a list, numbering its elements from m + 1 on, is the sum of what each counts
 module _ {A : Type 0} (d : A) (one : ℕ → A → ℕ) (all : ℕ → List A → ℕ) (none : (m : ℕ) → all m [] ≡ 0)
     (more : (m : ℕ) (x : A) (xs : List A) → all m (x ∷ xs) ≡ one m x + all (suc m) xs) where
+  -- the count is the sum over the numbers of the elements
   pub counted : (xs : List A) (m : ℕ) → all (suc m) xs ≡ total (λ n. one (m + n) (getD xs (n - 1) d)) (length xs)
   unfolding total
   counted [] m = none (suc m)

@@ -16,5 +16,6 @@ module _ {w : Width} (w′ : Width) {z : ℤ} (f : SFits w z) (t : T (leb (hbits
   pub cast-fits : SFits w′ (held w z)
   cast-fits = subst (SFits w′) (sym (toZ-ofZ f)) (sfits-widen t f)
 
+  -- a number that fits both widths comes through a cast as it is
   pub cast-is : held w′ (held w z) ≡ z
   cast-is = toZ-ofZ cast-fits ∙ toZ-ofZ f

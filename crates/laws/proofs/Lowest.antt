@@ -22,6 +22,7 @@ module _ (t : ℕ → Bool) where
       (from-at k (suc i) d (omega arith) (λ m a b. none m (omega arith) (omega arith)) (subst (λ (m : ℕ). t m ≡ true) (omega arith) here)
       ∙ omega arith)
 
+  -- no number of the k from i on passes: the answer is 0
   from-none : (k i : ℕ) → ((m : ℕ) → i ≤ m → m < i + k → t m ≡ false) → lowestFrom t i k ≡ 0
   unfolding lowestFrom
   from-none zero i none = refl
@@ -39,6 +40,7 @@ module _ (t : ℕ → Bool) where
   pub lowest-none : (n : ℕ) → ((m : ℕ) → 1 ≤ m → m ≤ n → t m ≡ false) → lowest t n ≡ 0
   lowest-none n none = from-none n 1 (λ m a b. none m a (omega arith))
 
+  -- the answer by what the test says of the first number
   from-step : (k i : ℕ) (b : Bool) → t i ≡ b → lowestFrom t i (suc k) ≡ cond b i (lowestFrom t (suc i) k)
   unfolding lowestFrom
   from-step k i b q = ap (λ (x : Bool). cond x i (lowestFrom t (suc i) k)) q
@@ -50,6 +52,7 @@ module _ (t : ℕ → Bool) where
   abbrev First : ℕ → ℕ → ℕ → Type 0
   First k i j = (i ≤ j) × (j < i + k) × (t j ≡ true) × ((m : ℕ) → i ≤ m → m < j → t m ≡ false)
 
+  -- an answer of 0 says that none of the k passes
   from-zero : (k i : ℕ) → 1 ≤ i → Nowhere k i
   from-zero zero i p e m a b = absurd (omega arith)
   from-zero (suc k) i p e m a b = here (from-zero k (suc i) (omega arith)) (t i) refl (ℕ-discrete m i)
@@ -59,6 +62,7 @@ module _ (t : ℕ → Bool) where
       here rest false q (yes w) = ap t w ∙ q
       here rest false q (no w) = rest (sym (from-step k i false q) ∙ e) m (omega arith) (omega arith)
 
+  -- any other answer is the first of them that passes
   from-found : (k i j : ℕ) → lowestFrom t i k ≡ j → 1 ≤ j → First k i j
   from-found zero i j e q = absurd (let z : 0 ≡ j = sym (from-none zero i (λ m a b. absurd (omega arith))) ∙ e in omega arith)
   from-found (suc k) i j e q = here (λ w. from-found k (suc i) j w q) (t i) refl
@@ -90,9 +94,11 @@ module _ (t : ℕ → Bool) where
   pub record NoneUpTo (i : ℕ) : Type 0 where
     pub none : (m : ℕ) → 1 ≤ m → m ≤ i → t m ≡ false
 
+  -- before the first turn nothing was tried
   pub none-yet : NoneUpTo 0
   none-yet = record { none = λ m a b. absurd (omega arith) }
 
+  -- a turn at which the test fails goes one further
   pub none-more : {i : ℕ} → NoneUpTo i → t (i + 1) ≡ false → NoneUpTo (i + 1)
   none-more {i} p e = record { none = λ m a b. at m a b (ℕ-discrete m (i + 1)) }
     where
@@ -100,20 +106,25 @@ module _ (t : ℕ → Bool) where
       at m a b (yes w) = ap t w ∙ e
       at m a b (no w) = p .none m a (omega arith)
 
+  -- a turn at which it holds has found the lowest
   pub none-found : (n : ℕ) {i : ℕ} → NoneUpTo i → i < n → t (i + 1) ≡ true → i + 1 ≡ lowest t n
   none-found n {i} p h e = sym (lowest-at n (i + 1) (omega arith) (omega arith) (λ m a b. p .none m a (omega arith)) e)
 
+  -- past the last number there is none
   pub none-at-all : (n : ℕ) {i : ℕ} → NoneUpTo i → n ≤ i → 0 ≡ lowest t n
   none-at-all n {i} p h = sym (lowest-none n (λ m a b. p .none m a (omega arith)))
 
 -- the n numbers after k, searched as a list of their own by u
 module _ (t u : ℕ → Bool) (k n : ℕ) (same : (i : ℕ) → 1 ≤ i → i ≤ n → t (k + i) ≡ u i) where
+  -- a number past k is k and what it has more
   back : (m : ℕ) → k < m → k + (m - k) ≡ m
   back m h = omega arith
 
+  -- where u fails below j, t fails at the numbers after k that stand for those
   after-none : (m j : ℕ) → k < m → m ≤ k + n → m - k < j → j ≤ n + 1 → ((i : ℕ) → 1 ≤ i → i < j → u i ≡ false) → t m ≡ false
   after-none m j h l b q none = ap t (sym (back m h)) ∙ same (m - k) (omega arith) (omega arith) ∙ none (m - k) (omega arith) (omega arith)
 
+  -- where u holds at none of its n numbers, t holds at none of the first k + n
   pub none-part : NoneUpTo t k → 0 ≡ lowest u n → NoneUpTo t (k + n)
   none-part p e = record { none = λ m a b. at m a b (decLe m k) }
     where
@@ -122,6 +133,7 @@ module _ (t u : ℕ → Bool) (k n : ℕ) (same : (i : ℕ) → 1 ≤ i → i �
       at m a b (no h) =
           after-none m (n + 1) (omega arith) b (omega arith) (omega arith) (λ i c d. lowest-zero u n (sym e) i c (omega arith))
 
+  -- where u first holds at j, t first holds at k + j
   pub found-part : (N j : ℕ) → NoneUpTo t k → j ≡ lowest u n → (j ≡ 0 → ⊥) → k + n ≤ N → k + j ≡ lowest t N
   found-part N j p e w h = sym (lowest-at t N (k + j) (omega arith) (omega (arith, r .0)) below here)
     where

@@ -10,6 +10,7 @@ use lib.ListN.{length, getD}
 use borrow.Author.Tests.{eqb-true, eq-eqb}
 use Rattle.laws.specs.Place.{placeIn}
 
+-- the first place, by whether the number is the list's first
 place-step : (x y : ℕ) (ys : List ℕ) (b : Bool) → eqb x y ≡ b → placeIn x (y ∷ ys) ≡ cond b 0 (suc (placeIn x ys))
 unfolding placeIn
 place-step x y ys b e = ap (λ (t : Bool). cond t 0 (suc (placeIn x ys))) e
@@ -33,6 +34,7 @@ place-first (y ∷ ys) (suc k) h = here (place-first ys k (omega arith)) (eqb (g
     here rest true e = rw (place-step (getD ys k 0) y ys true e) (omega arith)
     here rest false e = rw (place-step (getD ys k 0) y ys false e) (omega arith)
 
+-- it is never past the list's length
 pub place-within : (x : ℕ) (xs : List ℕ) → placeIn x xs ≤ length xs
 unfolding placeIn
 place-within x [] = omega arith

@@ -17,6 +17,7 @@ same (pos a) (negsuc b) = false
 same (negsuc a) (pos b) = false
 same (negsuc a) (negsuc b) = eqb a b
 
+-- numbers that the test calls equal are equal
 pub same→eq : (x y : ℤ) → T (same x y) → x ≡ y
 same→eq (pos a) (pos b) t = ap pos (eqb→eq a b t)
 same→eq (pos a) (negsuc b) t = absurd t
@@ -28,6 +29,7 @@ mag-subℕ : (a b : ℕ) (t : Bool) → mag (cond t (negsuc (b - suc a)) (pos (a
 mag-subℕ a b true = omega arith
 mag-subℕ a b false = omega arith
 
+-- the same for signed numbers
 pub mag-sub : (x y : ℤ) → mag (x -ℤ y) ≤ mag x + mag y + 2
 mag-sub (pos a) (pos zero) = omega arith
 mag-sub (pos a) (pos (suc b)) = let h = mag-subℕ a (suc b) (ltb a (suc b)) in omega (arith, h)
@@ -51,6 +53,7 @@ pub nonNeg-turned : (z : ℤ) → ltZ z (pos 0) ≡ true → T (nonNeg (pos 0 -�
 nonNeg-turned (pos n) e = absurd (let h : n < 0 = ltb-true n 0 e in omega arith)
 nonNeg-turned (negsuc n) e = tt
 
+-- a number that is not below 0 is not negative
 pub nonNeg-left : (z : ℤ) → ltZ z (pos 0) ≡ false → T (nonNeg z)
 nonNeg-left (pos n) e = tt
 nonNeg-left (negsuc n) e = absurd (true≢false e)

@@ -11,10 +11,12 @@ use native.Mathlib.Decide.{ℕ-discrete}
 use native.Mathlib.Omega.{arith}
 use Rattle.laws.specs.Table.{both, every, allBelow}
 
+-- of two tests that pass together the first passes
 pub both-left : (a b : Bool) → T (both a b) → T a
 both-left true b t = tt
 both-left false b t = t
 
+-- and so does the second
 pub both-right : (a b : Bool) → T (both a b) → T b
 both-right true b t = t
 both-right false b t = absurd t
@@ -27,6 +29,7 @@ each-of-four a b c d t =
     (both-left a (both b (both c d)) t, both-left b (both c d) u, both-left c d v, both-right c d v)
 
 module _ {A : Type 0} (d : A) (f : ℕ → A → Bool) where
+  -- the rule at entry k of a list whose places are counted from i
   from : (xs : List A) (i : ℕ) → T (every f i xs) → (k : ℕ) → k < length xs → T (f (i + k) (getD xs k d))
   from [] i t k h = absurd (not-suc-le-zero h)
   from (x ∷ xs) i t zero h = subst (λ (m : ℕ). T (f m x)) (sym (add-zero i)) (both-left (f i x) (every f (suc i) xs) t)

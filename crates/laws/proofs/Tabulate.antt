@@ -10,14 +10,17 @@ use lib.Seq.{ext-getD}
 use Rattle.laws.specs.Tabulate.{tabulateFrom, tabulate}
 
 module _ {A : Type 0} (f : ℕ → A) where
+  -- a list given by n places has n entries, from whichever place on
   length-from : (i n : ℕ) → length (tabulateFrom i f n) ≡ n
   unfolding tabulateFrom
   length-from i zero = refl
   length-from i (suc n) = ap suc (length-from (suc i) n)
 
+  -- a list given by its n places has n entries
   pub length-tabulate : (n : ℕ) → length (tabulate f n) ≡ n
   length-tabulate n = length-from 0 n
 
+  -- entry k of a list whose places are counted from i
   getD-from : (d : A) (n i k : ℕ) → k < n → getD (tabulateFrom i f n) k d ≡ f (i + k)
   unfolding tabulateFrom
   getD-from d zero i k h = absurd (omega arith)
@@ -39,6 +42,7 @@ module _ {A : Type 0} (f : ℕ → A) where
 pub own-entries : {A : Type 0} (d : A) (l : List A) (n : ℕ) → length l ≡ n → tabulate (λ k. getD l k d) n ≡ l
 own-entries d l n e = tabulate-is (λ k. getD l k d) d l n e (λ k h. refl)
 
+-- the same for lists whose places are counted from i
 from-cong : {A : Type 0} (f g : ℕ → A) (n i : ℕ) → ((k : ℕ) → i ≤ k → k < i + n → f k ≡ g k) → tabulateFrom i f n ≡ tabulateFrom i g n
 unfolding tabulateFrom
 from-cong f g zero i h = refl

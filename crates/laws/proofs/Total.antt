@@ -10,10 +10,12 @@ use mathlib.Core.Bool.{cond}
 use lib.Dec.{eqb}
 use Rattle.laws.specs.Total.{total}
 
+-- a sum's last part taken out
 pub total-more : (f : ℕ → ℕ) (n : ℕ) → total f (n + 1) ≡ total f n + f (n + 1)
 unfolding total
 total-more f n = rw add-one
 
+-- equal parts make equal sums
 pub total-cong : (f g : ℕ → ℕ) (n : ℕ) → ((k : ℕ) → 1 ≤ k → k ≤ n → f k ≡ g k) → total f n ≡ total g n
 unfolding total
 total-cong f g zero h = refl
