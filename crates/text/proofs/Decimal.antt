@@ -93,6 +93,7 @@ decimal-most = by-digits (λ n. (d : ℕ) → 1 ≤ d → n < 10 ^ d → length 
 abbrev pub IsDigit : ℕ → Type 0
 IsDigit b = (48 ≤ b) × (b ≤ 57)
 
+-- every byte of a number in decimal is a digit
 pub decimal-digits : (n i : ℕ) → i < length (decimal n) → IsDigit (getD (decimal n) i 0)
 decimal-digits = by-digits (λ n. (i : ℕ) → i < length (decimal n) → IsDigit (getD (decimal n) i 0)) one more
   where

@@ -10,6 +10,7 @@ use Rattle.text.specs.Laid.{laid}
 pub word-bytes : ascii "unit " ≡ 117 ∷ 110 ∷ 105 ∷ 116 ∷ 32 ∷ []
 word-bytes = refl
 
+-- a newline is the one byte 10
 pub line-end : ascii "\n" ≡ 10 ∷ []
 line-end = refl
 
@@ -28,10 +29,12 @@ pub with-room : laid (ascii "......") 1 (ascii "unit") ≡ ascii ".unit."
 unfolding laid
 with-room = refl
 
+-- a word with too little room is laid as far as there is room
 pub cut : laid (ascii "......") 3 (ascii "unit") ≡ ascii "...uni"
 unfolding laid
 cut = refl
 
+-- a word past the buffer's end is not laid at all
 pub past-the-end : laid (ascii "......") 7 (ascii "unit") ≡ ascii "......"
 unfolding laid
 past-the-end = refl
