@@ -13,10 +13,11 @@ use Rattle.blocks.specs.declared.Told.the-variants.{Nothing, Place}
 use Rattle.blocks.specs.declared.Walk.{Walk}
 use Rattle.recording.specs.declared.Counts.{Counts}
 use Rattle.recording.specs.declared.Hearing.{Hearing}
+use Rattle.listing.specs.declared.Line.{Line}
 use Rattle.text.specs.Ascii.{ascii}
 use Rattle.text.specs.Decimal.{decimal}
 use Rattle.text.proofs.Laid.{put-then}
-use Rattle.listing.specs.Lines.{told, pairLine, headLine, fields, numbersOf, saidOf, frameLine, lastLine, placeShown, refusedLine}
+use Rattle.listing.specs.Lines.{told, pairLine, headLine, fields, lineOf, saidOf, frameLine, lastLine, placeShown, refusedLine}
 use Rattle.listing.proofs.Puts.{Put, put-as, fields-then}
 
 -- the return of `put_pair`
@@ -52,15 +53,20 @@ refused-put o cause {number} {place} n t l p =
 pub shown : (t : Told) {u : Told} {n : ℕ} → t ≡ u → n ≡ placeShown u → n ≡ placeShown t
 shown t e is = is ∙ ap placeShown (sym e)
 
+-- the return of `line_of`
+pub line-is : (h : Hearing) {refusal correction : ℕ} → refusal ≡ values.refusalOf (h .values .outcome)
+    → correction ≡ correctionNumber (h .reading)
+    → record { correction = correction; refusal = refusal; mark = h .reading .mark; sy = h .reading .indices .sy; delays = h .values .delays }
+    ≡ lineOf h
+line-is h p q =
+    λ i. record { correction = q i; refusal = p i; mark = h .reading .mark; sy = h .reading .indices .sy; delays = h .values .delays }
+
 -- the return of `put_line`
-pub line-put : (o : List ℕ) (at n : ℕ) (h : Hearing) {number : ℕ} {o₁ o₂ o₃ o₄ : List ℕ} {at₁ at₂ at₃ at₄ : ℕ}
-    → number ≡ correctionNumber (h .reading) → Put o at (decimal n) at₁ o₁ → Put o₁ at₁ (fields (number ∷ [])) at₂ o₂
-    → Put o₂ at₂ (saidOf h) at₃ o₃ → Put o₃ at₃ (ascii "\n") at₄ o₄ → Put o at (frameLine n h) at₄ o₄
+pub line-put : (o : List ℕ) (at n : ℕ) (l : Line) {o₁ o₂ o₃ o₄ : List ℕ} {at₁ at₂ at₃ at₄ : ℕ} → Put o at (decimal n) at₁ o₁
+    → Put o₁ at₁ (fields (l .correction ∷ [])) at₂ o₂ → Put o₂ at₂ (saidOf l) at₃ o₃ → Put o₃ at₃ (ascii "\n") at₄ o₄
+    → Put o at (frameLine n l) at₄ o₄
 unfolding frameLine
-line-put o at n h {number} is p q u e =
-    put-as o at (decimal n ++ fields (number ∷ []) ++ saidOf h ++ ascii "\n") (frameLine n h)
-    (ap (λ (k : ℕ). decimal n ++ fields (k ∷ []) ++ saidOf h ++ ascii "\n") is)
-    (put-then o at _ _ (put-then o at _ _ (put-then o at _ _ p q) u) e)
+line-put o at n l p q u e = put-then o at _ _ (put-then o at _ _ (put-then o at _ _ p q) u) e
 
 -- the return of `put_numbers`
 pub numbers-put : (o : List ℕ) (at mark sy : ℕ) (delays : List ℕ) {o₁ o₂ o₃ : List ℕ} {at₁ at₂ at₃ : ℕ}
@@ -70,14 +76,12 @@ numbers-put o at mark sy delays p q u =
     fields-then o at (mark ∷ sy ∷ []) delays (fields-then o at (mark ∷ []) (sy ∷ []) p q) u
 
 -- the returns of `put_said`: a refusal, or the numbers
-module _ (o : List ℕ) (at : ℕ) (h : Hearing) {refusal : ℕ} (is : refusal ≡ values.refusalOf (h .values .outcome)) {o₁ : List ℕ} {at₁ : ℕ} where
-  pub said-refused : (refusal ≡ 0 → ⊥) → Put o at (told (ascii " refused ") refusal) at₁ o₁ → Put o at (saidOf h) at₁ o₁
+module _ (o : List ℕ) (at : ℕ) (l : Line) {o₁ : List ℕ} {at₁ : ℕ} where
+  pub said-refused : (l .refusal ≡ 0 → ⊥) → Put o at (told (ascii " refused ") (l .refusal)) at₁ o₁ → Put o at (saidOf l) at₁ o₁
   unfolding saidOf
   said-refused w p =
-      put-as o at (told (ascii " refused ") refusal) (saidOf h)
-      (rw (ne-eqb (values.refusalOf (h .values .outcome)) 0 (λ z. w (is ∙ z))) (ap (told (ascii " refused ")) is)) p
+      put-as o at (told (ascii " refused ") (l .refusal)) (saidOf l) (rw (ne-eqb (l .refusal) 0 w)) p
 
-  pub said-heard : refusal ≡ 0 → Put o at (fields (numbersOf h)) at₁ o₁ → Put o at (saidOf h) at₁ o₁
+  pub said-heard : l .refusal ≡ 0 → Put o at (fields (l .mark ∷ l .sy ∷ l .delays)) at₁ o₁ → Put o at (saidOf l) at₁ o₁
   unfolding saidOf
-  said-heard z p =
-      put-as o at (fields (numbersOf h)) (saidOf h) (rw (eq-eqb (values.refusalOf (h .values .outcome)) 0 (sym is ∙ z))) p
+  said-heard z p = put-as o at (fields (l .mark ∷ l .sy ∷ l .delays)) (saidOf l) (rw (eq-eqb (l .refusal) 0 z)) p

@@ -14,13 +14,14 @@ use Rattle.blocks.specs.Frames.{framesOf}
 use Rattle.blocks.specs.declared.Cause.{Cause}
 use Rattle.blocks.specs.declared.Ending.{Ending}
 use Rattle.blocks.specs.declared.Ending.the-variants.{Sound, Refused}
+use Rattle.blocks.specs.declared.Walk.{Walk}
 use Rattle.blocks.specs.declared.Walked.{Walked}
 use Rattle.recording.specs.Pass.{begunAt}
 use Rattle.recording.specs.declared.Pass.{Pass}
 use Rattle.text.specs.Laid.{laid}
 use Rattle.text.proofs.Laid.{put-then}
 use Rattle.listing.specs.Lines.{headLine, refusedLine}
-use Rattle.listing.specs.Listing.{bodyOf, textBy, listingOf, room, listedOf, listingLeft}
+use Rattle.listing.specs.Listing.{bodyOf, soundText, textBy, listingOf, room, listedOf, listingLeft}
 use Rattle.listing.specs.Promised.{ListingFits}
 use Rattle.listing.specs.declared.Listed.{Listed}
 use Rattle.listing.specs.declared.Listed.the-variants.{Text, WrongLength}
@@ -54,23 +55,28 @@ module _ (s o : List ℕ) (bytes : (i : ℕ) → getD s i 0 < 256) (long : lengt
       (rw (eq-eqb (length o) room long) (ap Text e), rw (eq-eqb (length o) room long) (p .1 ∙ laid-front o (listingOf s) l))
 
   module _ {w : Walked} (is : w ≡ walkedOf s) where
-    text-is : (e : Ending) → w .ending ≡ e → textBy e (headLine (w .walk) ++ bodyOf freshState (framesOf s)) ≡ listingOf s
+    text-is : (e : Ending) → w .ending ≡ e → textBy e (soundText (w .walk) (framesOf s)) ≡ listingOf s
     unfolding listingOf
     text-is e ends =
-        ap (λ (x : Ending). textBy x (headLine (w .walk) ++ bodyOf freshState (framesOf s))) (sym ends)
-        ∙ ap (λ (x : Walked). textBy (x .ending) (headLine (x .walk) ++ bodyOf freshState (framesOf s))) is
+        ap (λ (x : Ending). textBy x (soundText (w .walk) (framesOf s))) (sym ends)
+        ∙ ap (λ (x : Walked). textBy (x .ending) (soundText (x .walk) (framesOf s))) is
 
     -- a refused recording
     pub listed-refused : {cause : Cause} → w .ending ≡ Refused cause → {end : ℕ} {o′ : List ℕ} → Put o 0 (refusedLine cause) end o′
         → Answered s o (Text end) o′
     listed-refused {cause} ends p = listed-whole (put-as o 0 (refusedLine cause) (listingOf s) (text-is (Refused cause) ends) p)
 
-    -- a sound one: the first line, and then the frames, from a fresh state on
-    pub listed-sound : w .ending ≡ Sound → {fresh : State} {begun : Pass} → fresh ≡ freshState → begun ≡ begunAt (w .walk .voices) fresh
-        → {start end : ℕ} {o₁ o₂ : List ℕ} → Put o 0 (headLine (w .walk)) start o₁
-        → Put o₁ start (bodyOf (begun .state) (framesOf s)) end o₂ → Answered s o (Text end) o₂
-    listed-sound ends {fresh} {begun} same is p q =
-        listed-whole
-        (put-as o 0 (headLine (w .walk) ++ bodyOf (begun .state) (framesOf s)) (listingOf s)
-        (ap (λ (x : State). headLine (w .walk) ++ bodyOf x (framesOf s)) (ap (λ (x : Pass). x .state) is ∙ same) ∙ text-is Sound ends)
-        (put-then o 0 (headLine (w .walk)) (bodyOf (begun .state) (framesOf s)) p q))
+    -- a sound one
+    pub listed-sound : w .ending ≡ Sound → {end : ℕ} {o′ : List ℕ} → Put o 0 (soundText (w .walk) (framesOf s)) end o′
+        → Answered s o (Text end) o′
+    listed-sound ends p = listed-whole (put-as o 0 (soundText (w .walk) (framesOf s)) (listingOf s) (text-is Sound ends) p)
+
+-- the return of `put_sound`: the first line, and then the frames, from a fresh state on
+pub sound-put : (o : List ℕ) (w : Walk) (frames : List (List ℕ)) {fresh : State} {begun : Pass} → fresh ≡ freshState
+    → begun ≡ begunAt (w .voices) fresh → {start end : ℕ} {o₁ o₂ : List ℕ} → Put o 0 (headLine w) start o₁
+    → Put o₁ start (bodyOf (begun .state) frames) end o₂ → Put o 0 (soundText w frames) end o₂
+unfolding soundText
+sound-put o w frames {fresh} {begun} same is p q =
+    put-as o 0 (headLine w ++ bodyOf (begun .state) frames) (soundText w frames)
+    (ap (λ (x : State). headLine w ++ bodyOf x frames) (ap (λ (x : Pass). x .state) is ∙ same))
+    (put-then o 0 (headLine w) (bodyOf (begun .state) frames) p q)

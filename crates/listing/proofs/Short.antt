@@ -35,10 +35,10 @@ use Rattle.recording.proofs.Passes.{frames-most}
 use Rattle.text.specs.Ascii.{ascii}
 use Rattle.text.specs.Decimal.{decimal}
 use Rattle.text.proofs.Decimal.{decimal-most}
-use Rattle.listing.specs.Lines.{told, pairLine, headLine, fields, numbersOf, saidOf, frameLine, lastLine, placeShown, refusedLine}
-use Rattle.listing.specs.Listing.{linesTo, bodyOf, textBy, listingOf, room}
+use Rattle.listing.specs.Lines.{pairLine, headLine, fields, lineOf, saidOf, frameLine, lastLine, placeShown, refusedLine}
+use Rattle.listing.specs.Listing.{linesTo, bodyOf, soundText, textBy, listingOf, room}
 use Rattle.listing.specs.Promised.{ListingFits}
-use Rattle.listing.proofs.Told.{Placed, Small, Told, walked-told}
+use Rattle.listing.proofs.Told.{Placed, Small, walked-small, walked-placed}
 
 -- ---- lines of words and numbers
 
@@ -115,8 +115,7 @@ module _ (before : State) (f : List ℕ) where
       (λ k h. let m = delays-most (readingOf f .indices) before k (omega arith) in omega arith) in
       omega arith
 
-  numbers-short : length (fields (numbersOf (hearingOf before f))) ≤ 24
-  unfolding hearingOf
+  numbers-short : length (fields (readingOf f .mark ∷ readingOf f .indices .sy ∷ valuesOf (readingOf f .indices) before .delays)) ≤ 24
   numbers-short =
       let r = readingOf f in
       let d = valuesOf (r .indices) before .delays in
@@ -125,16 +124,14 @@ module _ (before : State) (f : List ℕ) where
       let l = delays-short in
       omega arith
 
-  said-short : length (saidOf (hearingOf before f)) ≤ 24
-  unfolding saidOf
+  said-short : length (saidOf (lineOf (hearingOf before f))) ≤ 24
+  unfolding saidOf hearingOf
   said-short =
-      chosen (λ (t : List ℕ). length t ≤ 24) (eqb (values.refusalOf (hearingOf before f .values .outcome)) 0) (λ e. numbers-short)
-      (λ e.
-      let l = decimal-most (values.refusalOf (hearingOf before f .values .outcome)) 1 (omega arith)
-      (outcome-small (hearingOf before f .values .outcome)) in
-      simp length-append (omega arith))
+      let o = valuesOf (readingOf f .indices) before .outcome in
+      chosen (λ (t : List ℕ). length t ≤ 24) (eqb (values.refusalOf o) 0) (λ e. numbers-short)
+      (λ e. let l = decimal-most (values.refusalOf o) 1 (omega arith) (outcome-small o) in simp length-append (omega arith))
 
-  line-short : (n : ℕ) → n < 10 ^ 4 → length (frameLine n (hearingOf before f)) ≤ 35
+  line-short : (n : ℕ) → n < 10 ^ 4 → length (frameLine n (lineOf (hearingOf before f))) ≤ 35
   unfolding frameLine hearingOf
   line-short n h =
       let a : length (decimal n) ≤ 4 = decimal-most n 4 (omega arith) h in
@@ -162,16 +159,13 @@ body-short before frames h =
     simp length-append (omega arith)
 
 pub listing-fits : ListingFits
-unfolding ListingFits listingOf Placed
-listing-fits s bytes = go (walkedOf s .ending) refl (t .placed)
+unfolding ListingFits listingOf soundText Placed
+listing-fits s bytes = go (walkedOf s .ending) refl (walked-placed s bytes)
   where
-    t : Told s (walkedOf s)
-    t = walked-told s bytes
-
     go : (e : Ending) → walkedOf s .ending ≡ e → Placed e
-        → length (textBy e (headLine (walkedOf s .walk) ++ bodyOf freshState (framesOf s))) ≤ room
+        → length (textBy e (soundText (walkedOf s .walk) (framesOf s))) ≤ room
     go Sound e p =
-        let k = t .small in
+        let k = walked-small s bytes in
         let w = sound-short s e in
         let b = body-short freshState (framesOf s) (frames-most s) in
         let l = head-short (walkedOf s .walk) (omega arith) (omega arith) (omega arith) in

@@ -1,22 +1,20 @@
 -- What a walk tells is small: a head's numbers have ten digits at most, there are no more frames than bytes, and the place that a
 -- refusal shows is in the recording, or at its end, or the longest length of one.
 -- Assumes nothing.
-use mathlib.Core.Path.{_≡_, _∙_, sym, refl, ap, subst}
-use mathlib.Core.Bool.{Bool, true, false, not}
+use mathlib.Core.Path.{_≡_, refl, ap, subst}
+use mathlib.Core.Bool.{false, not}
 use mathlib.Core.List.{List}
-use Prim.Native.Nat.{ℕ, zero, suc, _+_, _*_, _^_, _<_, _≤_}
+use Prim.Native.Nat.{ℕ, _+_, _*_, _^_, _<_, _≤_}
 use native.Mathlib.Omega.{arith}
-use borrow.Author.Tests.{leb-true}
+use native.Mathlib.Decide.{decLe}
 use lib.Dec.{eqb, leb, ltb}
 use lib.ListN.{length, getD}
 use Rattle.laws.specs.Bytes.{wordAt}
-use Rattle.laws.specs.Turns.{turns}
-use Rattle.laws.specs.Unless.{unless}
 use Rattle.laws.proofs.Chosen.{chosen}
-use Rattle.blocks.specs.Blocks.{sizeAt, kindAt, rightSize, headingAt, blockAt}
-use Rattle.blocks.specs.Walk.{longest, met, stepOf, atStart, stopped, onward, walkFrom, walkedOf}
+use Rattle.blocks.specs.Blocks.{sizeAt, kindAt, rightSize, blockAt}
+use Rattle.blocks.specs.Walk.{longest, met, stepOf, walkedOf}
 use Rattle.blocks.specs.Refusals.{toldOf}
-use Rattle.blocks.specs.declared.Cause.the-variants.{TooLong, EndMissing}
+use Rattle.blocks.specs.declared.Cause.the-variants.{TooLong}
 use Rattle.blocks.specs.declared.Heading.{Heading}
 use Rattle.blocks.specs.declared.Block.{Block}
 use Rattle.blocks.specs.declared.Block.the-variants.{Head, Voice, End, Broken}
@@ -26,8 +24,8 @@ use Rattle.blocks.specs.declared.Walk.{Walk}
 use Rattle.blocks.specs.declared.Walked.{Walked}
 use Rattle.blocks.specs.declared.Moved.{Moved}
 use Rattle.blocks.specs.declared.Moved.the-variants.{On, Done}
-use Rattle.blocks.proofs.Blocks.{head-held}
-use Rattle.blocks.proofs.Walks.{end-room, Stepped, passed-head, passed-voice, ended, refused, stepped, step-further}
+use Rattle.blocks.proofs.Blocks.{head-held, end-held}
+use Rattle.blocks.proofs.Walks.{step-on, step-further, walked-keeps, walked-stops, too-long}
 use Rattle.listing.specs.Lines.{placeShown}
 
 -- ---- the place of a refusal
@@ -70,10 +68,10 @@ module _ (s : List ℕ) (short : length s ≤ longest) where
       go (Head heading) e p = chosen PlacedMove (not (w .headed)) (λ t. tt) (λ t. omega arith)
       go (Voice size) e p = chosen PlacedMove (w .headed) (λ t. tt) (λ t. omega arith)
       go (End told) e p =
-          chosen PlacedMove (ltb 0 (w .frames)) (λ a.
-          chosen PlacedMove (eqb told (w .frames)) (λ b.
-          chosen PlacedMove (eqb (length s) (w .at + 6 + 4)) (λ c. tt)
-          (λ c. omega (arith, end-room s w told e))) (λ b. omega arith)) (λ a. omega arith)
+          chosen Placed (ltb 0 (w .frames)) (λ a.
+          chosen Placed (eqb told (w .frames)) (λ b.
+          chosen Placed (eqb (length s) (w .at + 6 + 4)) (λ c. tt)
+          (λ c. omega (arith, end-held s (w .at) told e .0 .fits))) (λ b. omega arith)) (λ a. omega arith)
       go (Broken cause) e p = p
 
 -- ---- the numbers of a head, and how many frames
@@ -91,53 +89,31 @@ unfolding wordAt
 word-small s b at = omega (arith, b at, b (at + 1), b (at + 2), b (at + 3))
 
 module _ (s : List ℕ) (bytes : (i : ℕ) → getD s i 0 < 256) where
-  -- of a step that goes on
-  SmallMove : Moved → Type 0
-  SmallMove (On w) = (w .heading .unit < 10 ^ 10) × (w .heading .number < 10 ^ 10)
-  SmallMove (Done ending) = Unit
-
-  small-move : (w : Walk) → Small s w → (m : Moved) → Stepped s w m → SmallMove m
-  unfolding SmallMove
-  small-move w k _ (passed-head h e t) =
-      let a = head-held s (w .at) h e .1 in
-      (rw a (word-small s bytes (w .at + 6)), rw a (word-small s bytes (w .at + 10)))
-  small-move w k _ (passed-voice size e t) = (k .unit, k .number)
-  small-move w k _ (ended e f l) = tt
-  small-move w k _ (refused cause) = tt
-
   small-on : (w next : Walk) → Small s w → stepOf s w ≡ On next → Small s next
-  unfolding SmallMove
-  small-on w next k e =
-      let f = step-further s w next e in
-      let m = subst SmallMove e (small-move w k (stepOf s w) (stepped s w)) in
+  small-on w next k o =
+      let f = step-further s w next o in
+      let m = step-on s w next (λ x. (x .heading .unit < 10 ^ 10) × (x .heading .number < 10 ^ 10)) head (λ size e t. (k .unit, k .number)) o in
       record { within = f .within; few = f .room (k .few); unit = m .0; number = m .1 }
-
--- ---- the whole
-
--- what a walk comes to
-pub record Told (s : List ℕ) (w : Walked) : Type 0 where
-  pub placed : Placed (w .ending)
-  pub small : Small s (w .walk)
-
-module _ (s : List ℕ) (bytes : (i : ℕ) → getD s i 0 < 256) where
-  small-start : Small s atStart
-  small-start = record { within = omega arith; few = omega arith; unit = omega arith; number = omega arith }
-
-  turns-told : length s ≤ longest → (n : ℕ) (w : Walk) → Small s w
-      → Told s (turns (stopped atStart (Refused (EndMissing (length s)))) (λ further w. onward further w (stepOf s w)) n w)
-  unfolding turns Placed PlacedMove
-  turns-told short zero w k = record { placed = short; small = small-start }
-  turns-told short (suc n) w k = go (stepOf s w) refl (step-placed s short w (k .within)) (turns-told short n)
     where
-      go : (m : Moved) → stepOf s w ≡ m → PlacedMove m
-          → ((x : Walk) → Small s x
-          → Told s (turns (stopped atStart (Refused (EndMissing (length s)))) (λ further w. onward further w (stepOf s w)) n x))
-          → Told s (onward (turns (stopped atStart (Refused (EndMissing (length s)))) (λ further w. onward further w (stepOf s w)) n) w m)
-      go (On next) e p more = more next (small-on s bytes w next k e)
-      go (Done ending) e p more = record { placed = p; small = k }
+      head : (h : Heading) → blockAt s (w .at) ≡ Head h → w .headed ≡ false → (h .unit < 10 ^ 10) × (h .number < 10 ^ 10)
+      head h e t =
+          let a = head-held s (w .at) h e .1 in
+          (rw a (word-small s bytes (w .at + 6)), rw a (word-small s bytes (w .at + 10)))
 
-  pub walked-told : Told s (walkedOf s)
-  unfolding walkedOf walkFrom Placed
-  walked-told =
-      chosen (Told s) (leb (length s) longest) (λ e. turns-told (leb-true (length s) longest e) (suc (length s)) atStart small-start)
-      (λ e. record { placed = omega arith; small = small-start })
+  pub walked-small : Small s (walkedOf s .walk)
+  walked-small =
+      walked-keeps s (Small s) small-on
+      (record { within = omega arith; few = omega arith; unit = omega arith; number = omega arith })
+
+  -- ---- the whole
+
+  pub walked-placed : Placed (walkedOf s .ending)
+  unfolding Placed PlacedMove
+  walked-placed = go (decLe (length s) longest)
+    where
+      go : Dec (length s ≤ longest) → Placed (walkedOf s .ending)
+      go (yes short) =
+          subst PlacedMove (walked-stops s short) (step-placed s short (walkedOf s .walk) (walked-small .within))
+      go (no w) =
+          let e : Refused TooLong ≡ walkedOf s .ending = ap (λ (x : Walked). x .ending) (too-long s (omega arith)) in
+          subst Placed e (omega arith)

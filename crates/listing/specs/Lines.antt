@@ -13,6 +13,7 @@ use Rattle.blocks.specs.declared.Told.the-variants.{Nothing, Place}
 use Rattle.blocks.specs.declared.Walk.{Walk}
 use Rattle.recording.specs.declared.Counts.{Counts}
 use Rattle.recording.specs.declared.Hearing.{Hearing}
+use Rattle.listing.specs.declared.Line.{Line}
 use Rattle.text.specs.Ascii.{ascii}
 use Rattle.text.specs.Decimal.{decimal}
 
@@ -33,20 +34,25 @@ unfoldable pub fields : List ℕ → List ℕ
 fields [] = []
 fields (n ∷ ns) = ascii " " ++ decimal n ++ fields ns
 
--- the numbers of a frame that has values: order mark, SY, four delays in twelfths
-abbrev pub numbersOf : Hearing → List ℕ
-numbersOf h = h .reading .mark ∷ h .reading .indices .sy ∷ h .values .delays
+-- what a line prints of a frame that was heard: correction number, its refusal as a record turned into values (0 where there is
+-- none), order mark, SY, four delays in twelfths
+abbrev pub lineOf : Hearing → Line
+lineOf h =
+    record {
+      correction = correctionNumber (h .reading);
+      refusal = values.refusalOf (h .values .outcome);
+      mark = h .reading .mark;
+      sy = h .reading .indices .sy;
+      delays = h .values .delays;
+    }
 
--- what is said of a frame: these, or its refusal as a record turned into values
-abbrev pub saidBy : ℕ → Hearing → List ℕ
-saidBy refusal h = cond (eqb refusal 0) (fields (numbersOf h)) (told (ascii " refused ") refusal)
-
-unfoldable pub saidOf : Hearing → List ℕ
-saidOf h = saidBy (values.refusalOf (h .values .outcome)) h
+-- after the correction number: order mark, SY, four delays; or the refusal
+unfoldable pub saidOf : Line → List ℕ
+saidOf l = cond (eqb (l .refusal) 0) (fields (l .mark ∷ l .sy ∷ l .delays)) (told (ascii " refused ") (l .refusal))
 
 -- the line of frame n: frame number, correction number, and what is said of it
-unfoldable pub frameLine : ℕ → Hearing → List ℕ
-frameLine n h = decimal n ++ fields (correctionNumber (h .reading) ∷ []) ++ saidOf h ++ ascii "\n"
+unfoldable pub frameLine : ℕ → Line → List ℕ
+frameLine n l = decimal n ++ fields (l .correction ∷ []) ++ saidOf l ++ ascii "\n"
 
 -- last line: repaired frames and sync breaks
 unfoldable pub lastLine : Counts → List ℕ

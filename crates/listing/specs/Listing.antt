@@ -8,22 +8,27 @@ use Rattle.values.specs.Values.{freshState}
 use Rattle.values.specs.declared.State.{State}
 use Rattle.blocks.specs.Walk.{walkedOf}
 use Rattle.blocks.specs.Frames.{framesOf}
+use Rattle.blocks.specs.declared.Walk.{Walk}
 use Rattle.blocks.specs.declared.Ending.{Ending}
 use Rattle.blocks.specs.declared.Ending.the-variants.{Sound, Refused}
 use Rattle.recording.specs.Counted.{countsOf}
 use Rattle.recording.specs.Pass.{frameHeard}
-use Rattle.listing.specs.Lines.{headLine, frameLine, lastLine, refusedLine}
+use Rattle.listing.specs.Lines.{headLine, lineOf, frameLine, lastLine, refusedLine}
 use Rattle.listing.specs.declared.Listed.{Listed}
 use Rattle.listing.specs.declared.Listed.the-variants.{Text, WrongLength}
 
 -- a line for each of the first k frames, heard one after the other from a state on
 unfoldable pub linesTo : State → List (List ℕ) → ℕ → List ℕ
 linesTo before frames zero = []
-linesTo before frames (suc k) = linesTo before frames k ++ frameLine (suc k) (frameHeard before frames (suc k))
+linesTo before frames (suc k) = linesTo before frames k ++ frameLine (suc k) (lineOf (frameHeard before frames (suc k)))
 
 -- after the first line: the lines of all frames, and their counts
 unfoldable pub bodyOf : State → List (List ℕ) → List ℕ
 bodyOf before frames = linesTo before frames (length frames) ++ lastLine (countsOf frames)
+
+-- a sound recording: the first line, and then the frames, from a fresh state on
+unfoldable pub soundText : Walk → List (List ℕ) → List ℕ
+soundText walk frames = headLine walk ++ bodyOf freshState frames
 
 -- a refused recording prints only that
 abbrev pub textBy : Ending → List ℕ → List ℕ
@@ -32,7 +37,7 @@ textBy (Refused cause) text = refusedLine cause
 
 -- any bytes
 unfoldable pub listingOf : List ℕ → List ℕ
-listingOf s = textBy (walkedOf s .ending) (headLine (walkedOf s .walk) ++ bodyOf freshState (framesOf s))
+listingOf s = textBy (walkedOf s .ending) (soundText (walkedOf s .walk) (framesOf s))
 
 -- the lent buffer has room for every listing
 abbrev pub room : ℕ

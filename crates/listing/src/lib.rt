@@ -13,15 +13,26 @@ ghost use mathlib.Core.List.{[], _∷_};
 ghost use Prim.Native.Nat.{_≤_};
 ghost use lib.ListN.{length};
 ghost use Rattle.text.specs.Laid.{laid, after};
+ghost use Rattle.blocks.specs.Walk.{walkedOf};
 ghost use Rattle.blocks.specs.Frames.{framesOf};
 ghost use Rattle.recording.specs.Pass.{startOf};
-ghost use Rattle.listing.specs.Lines.{told, pairLine, headLine, fields, saidOf, frameLine, lastLine, placeShown, refusedLine};
-ghost use Rattle.listing.specs.Listing.{bodyOf, listedOf, listingLeft};
+ghost use Rattle.listing.specs.Lines.{told, pairLine, headLine, fields, lineOf, saidOf, frameLine, lastLine, placeShown, refusedLine};
+ghost use Rattle.listing.specs.Listing.{bodyOf, soundText, listedOf, listingLeft};
+ghost use Rattle.blocks.specs.declared.Ending.the-variants.{Sound};
 
 // The length of the text that was laid, or that the buffer was not 131,072 bytes.
 pub enum Listed {
     Text(usize),
     WrongLength,
+}
+
+// What a line prints of a frame: its correction number, its refusal (0 where there is none), order mark, SY, four delays in twelfths.
+pub struct Line {
+    pub correction: usize,
+    pub refusal: u32,
+    pub mark: usize,
+    pub sy: u16,
+    pub delays: [u16; 4],
 }
 
 // Lists any bytes as a recording, into a lent buffer. A refusal writes nothing.
@@ -33,7 +44,6 @@ pub fn list(s: &[u8], out: &mut [u8]) -> Listed
         return Listed::WrongLength;
     }
     let walked = blocks::walk_through(s);
-    let walk = walked.walk;
     let ending = walked.ending;
     match ending {
         Ending::Refused(cause) => {
@@ -41,12 +51,22 @@ pub fn list(s: &[u8], out: &mut [u8]) -> Listed
             Listed::Text(end)
         }
         Ending::Sound => {
-            let start = put_head(out, walk);
-            let begun = recording::begin(walk, State::fresh());
-            let end = put_frames(out, start, s, begun);
+            let end = put_sound(out, s, walked.walk);
             Listed::Text(end)
         }
     }
+}
+
+// Lays all lines of a sound recording whose blocks were walked.
+fn put_sound(out: &mut [u8], s: &[u8], walk: Walk) -> usize
+    requires { ⌜ walk ≡ walkedOf (now s) .walk ⌝ }
+    requires { ⌜ walkedOf (now s) .ending ≡ Sound ⌝ }
+    ensures { λ r. ⌜ r ≡ after (now (out .entry)) 0 (soundText walk (framesOf (now (s .entry)))) ⌝ }
+    ensures { λ _. ⌜ now (out .exit) ≡ laid (now (out .entry)) 0 (soundText walk (framesOf (now (s .entry)))) ⌝ }
+{
+    let start = put_head(out, walk);
+    let begun = recording::begin(walk, State::fresh());
+    put_frames(out, start, s, begun)
 }
 
 // Lays the first line.
@@ -54,13 +74,12 @@ fn put_head(out: &mut [u8], walk: Walk) -> usize
     ensures { λ r. ⌜ r ≡ after (now (out .entry)) 0 (headLine walk) ⌝ }
     ensures { λ _. ⌜ now (out .exit) ≡ laid (now (out .entry)) 0 (headLine walk) ⌝ }
 {
-    let heading = walk.heading;
-    let unit = put_told(out, 0, b"unit ", heading.unit as u64);
+    let unit = put_told(out, 0, b"unit ", walk.heading.unit as u64);
     put_pair(
         out,
         unit,
         b" recording ",
-        heading.number as u64,
+        walk.heading.number as u64,
         b" frames ",
         walk.frames as u64,
     )
@@ -77,46 +96,54 @@ fn put_frames(out: &mut [u8], start: usize, s: &[u8], begun: Pass) -> usize
     let mut pass = begun;
     loop {
         let step = recording::next(s, pass);
-        let after = step.pass;
-        if after.frames == pass.frames {
-            return put_last(out, end, after.counts);
+        if step.pass.frames == pass.frames {
+            return put_last(out, end, pass.counts);
         }
-        end = put_line(out, end, after.frames, step.hearing);
-        pass = after;
+        let line = line_of(step.hearing);
+        pass = step.pass;
+        end = put_line(out, end, pass.frames, line);
     }
 }
 
-// Lays the line of frame n.
-fn put_line(out: &mut [u8], at: usize, n: u32, hearing: Hearing) -> usize
-    ensures { λ r. ⌜ r ≡ after (now (out .entry)) at (frameLine n hearing) ⌝ }
-    ensures { λ _. ⌜ now (out .exit) ≡ laid (now (out .entry)) at (frameLine n hearing) ⌝ }
-{
-    let reading = hearing.reading;
-    let numbered = text::put_number(out, at, n as u64);
-    let corrected = put_field(out, numbered, reading.correction_number() as u64);
-    let said = put_said(out, corrected, hearing);
-    text::put_byte(out, said, b'\n')
-}
-
-// Lays what is said of a frame after its correction number.
-fn put_said(out: &mut [u8], at: usize, hearing: Hearing) -> usize
-    ensures { λ r. ⌜ r ≡ after (now (out .entry)) at (saidOf hearing) ⌝ }
-    ensures { λ _. ⌜ now (out .exit) ≡ laid (now (out .entry)) at (saidOf hearing) ⌝ }
+// What a line prints of a frame that was heard.
+fn line_of(hearing: Hearing) -> Line
+    ensures { λ r. ⌜ r ≡ lineOf hearing ⌝ }
 {
     let values = hearing.values;
     let outcome = values.outcome;
     let refusal = outcome.refusal_number();
-    if refusal != 0 {
-        return put_told(out, at, b" refused ", refusal as u64);
-    }
+    let correction = hearing.reading.correction_number();
     let delays = values.delays;
-    put_numbers(
-        out,
-        at,
-        hearing.reading.mark,
-        hearing.reading.indices.sy,
+    Line {
+        correction,
+        refusal,
+        mark: hearing.reading.mark,
+        sy: hearing.reading.indices.sy,
         delays,
-    )
+    }
+}
+
+// Lays the line of frame n.
+fn put_line(out: &mut [u8], at: usize, n: u32, line: Line) -> usize
+    ensures { λ r. ⌜ r ≡ after (now (out .entry)) at (frameLine n line) ⌝ }
+    ensures { λ _. ⌜ now (out .exit) ≡ laid (now (out .entry)) at (frameLine n line) ⌝ }
+{
+    let numbered = text::put_number(out, at, n as u64);
+    let corrected = put_field(out, numbered, line.correction as u64);
+    let said = put_said(out, corrected, line);
+    text::put_byte(out, said, b'\n')
+}
+
+// Lays what is said of a frame after its correction number.
+fn put_said(out: &mut [u8], at: usize, line: Line) -> usize
+    ensures { λ r. ⌜ r ≡ after (now (out .entry)) at (saidOf line) ⌝ }
+    ensures { λ _. ⌜ now (out .exit) ≡ laid (now (out .entry)) at (saidOf line) ⌝ }
+{
+    if line.refusal != 0 {
+        return put_told(out, at, b" refused ", line.refusal as u64);
+    }
+    let delays = line.delays;
+    put_numbers(out, at, line.mark, line.sy, delays)
 }
 
 // Lays the numbers of a frame that has values.

@@ -20,7 +20,7 @@ loop-holds c = listing-start _ _ _ _ (c .before .before .pre .0) (c .before .bef
 returns : tie.Need-returns Inv-loop μ-loop
 returns c =
     let p = c .before .before in
-    let n = p .before .before .before .before .before .before in
+    let n = p .before .before .before .before .before in
     listing-done (n .before .loop .inv) (n .next .ensures) (p .before .before .if1 .taken) (p .put-last .ensures)
 
 same-length : tie.Need-same-length Inv-loop μ-loop
@@ -28,16 +28,17 @@ same-length c = put-length _ _ _ (returns c)
 
 loop-less : tie.Need-loop-less Inv-loop μ-loop
 loop-less c =
-    let p = c .before .before in
-    let n = p .before .before .before .before .before .before in
-    let f = step-further (n .before .loop .inv .passing) (n .next .ensures) (p .before .before .if1 .left) in
+    let l = c .before .before .before .before .before in
+    let n = l .before .before .before .before in
+    let f = step-further (n .before .loop .inv .passing) (n .next .ensures) (l .before .if1 .left) in
     omega (arith, f .more, f .one)
 
 loop-again : tie.Need-loop-again Inv-loop μ-loop
 loop-again c =
     let p = c .before .before in
-    let n = p .before .before .before .before .before .before in
-    listing-on (n .before .loop .inv) (n .next .ensures) (p .before .before .if1 .left) (p .put-line .ensures)
+    let l = p .before .before .before in
+    let n = l .before .before .before .before in
+    listing-on (n .before .loop .inv) (n .next .ensures) (l .before .if1 .left) (l .line-of .ensures) (p .put-line .ensures)
 
 pub put-frames-spec : {M : Type 1} → statement M
-put-frames-spec = tie.close (tie.spec Inv-loop μ-loop loop-holds (λ c κs. tt) (λ c κs. tt) same-length returns (λ c κs. tt) loop-less loop-again)
+put-frames-spec = tie.close (tie.spec Inv-loop μ-loop loop-holds (λ c κs. tt) (λ c κs. tt) same-length returns (λ c κs. tt) (λ c κs. tt) loop-less loop-again)

@@ -9,7 +9,7 @@ returns : tie.Need-returns
 returns c =
     let p = c .before .before in
     let t = p .before .before .before .before .before .before .before .before in
-    head-put _ (t .before .before .before .before .before .before .args .walk) (t .put-told .ensures) (p .put-pair .ensures)
+    head-put _ (t .before .before .before .before .before .args .walk) (t .put-told .ensures) (p .put-pair .ensures)
 
 same-length : tie.Need-same-length
 same-length c = put-length _ _ _ (returns c)
