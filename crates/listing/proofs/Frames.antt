@@ -1,92 +1,76 @@
 -- The loop over the frames: their lines one after the other, and then the last line with what was counted.
 -- Assumes nothing.
-use mathlib.Core.Path.{_≡_, _∙_, sym, refl, ap}
-use mathlib.Core.List.{List, [], _∷_, _++_, append-assoc, append-nil}
-use Prim.Native.Nat.{ℕ, suc, _+_, _-_, _≤_}
-use native.Mathlib.Omega.{arith}
-use native.Mathlib.Numerals.{add-one}
+use mathlib.Core.Path.{_≡_, _∙_, sym, refl, ap, ap₂}
+use mathlib.Core.List.{List, [], _++_}
+use Prim.Native.Nat.{ℕ, zero, suc, _≤_}
 use lib.ListN.{length}
-use Rattle.record.specs.Fields.{tooLarge}
-use Rattle.frame.specs.Answers.{readingOf}
-use Rattle.frame.specs.declared.Reading.{Reading}
-use Rattle.blocks.specs.Blocks.{part}
-use Rattle.blocks.specs.Walk.{longest}
-use Rattle.blocks.specs.Frames.{afterHead, foundAt, framesFrom}
-use Rattle.recording.specs.Judged.{repairBy, breakBy}
-use Rattle.blocks.specs.declared.Found.the-variants.{At, Nothing}
+use Rattle.values.specs.declared.State.{State}
+use Rattle.blocks.specs.Frames.{framesOf}
+use Rattle.recording.specs.Counted.{countsOf}
+use Rattle.recording.specs.Pass.{frameHeard, startOf, nextOf}
 use Rattle.recording.specs.declared.Counts.{Counts}
-use Rattle.blocks.proofs.Frames.{frames-none, frames-more}
-use Rattle.recording.proofs.Counting.{Counting, counting-start, counting-done, counting-on}
-use Rattle.text.proofs.Laid.{laid-none, put-then}
-use Rattle.listing.specs.Lines.{frameLine, lastLine}
-use Rattle.listing.specs.Listing.{linesFrom, bodyOf}
-use Rattle.listing.proofs.Puts.{Put, put-as}
-use Rattle.frame.proofs.Readings.{reading-range}
+use Rattle.recording.specs.declared.Pass.{Pass}
+use Rattle.recording.specs.declared.Step.{Step}
+use Rattle.recording.proofs.Passes.{Passing}
+use Rattle.recording.proofs.Through.{none-passed, on-its-way, step-hears, step-further, step-ended, all-counted}
+use Rattle.text.proofs.Laid.{put-then}
+use Rattle.listing.specs.Lines.{lineOf, frameLine, lastLine}
+use Rattle.listing.specs.Listing.{linesTo, bodyOf}
+use Rattle.listing.specs.declared.Line.{Line}
+use Rattle.listing.proofs.Puts.{Put, put-as, put-nothing}
 
--- what was laid and the lines of the frames that are left make the lines of all; what was counted, and what is left, the counts of all
-pub record Listing (s before : List ℕ) (start : ℕ) (o : List ℕ) (end at left count repaired breaks : ℕ) : Type 0 where
-  pub counts : Counting s at left count repaired breaks
-  pub text : List ℕ
-  pub put : Put before start text end o
-  pub rest : text ++ linesFrom (suc count) (framesFrom s at left) ≡ linesFrom 1 (framesFrom s afterHead 0)
+-- the pass is on its way, and the lines of the frames that it passed are laid
+pub record Listing (before : State) (s o : List ℕ) (start : ℕ) (o′ : List ℕ) (end : ℕ) (p : Pass) : Type 0 where
+  pub passing : Passing before s p
+  pub put : Put o start (linesTo before (framesOf s) (p .frames)) end o′
 
-pub listing-start : (s o : List ℕ) (start : ℕ) → start ≤ length o → Listing s o start o start afterHead 0 0 0 0
-listing-start s o start h =
-    record { counts = counting-start s; text = []; put = (omega arith, sym (laid-none o start)); rest = refl }
+-- no line
+lines-none : (before : State) (frames : List (List ℕ)) → [] ≡ linesTo before frames 0
+unfolding linesTo
+lines-none before frames = refl
 
--- the lines of one frame and the rest
-lines-none : (n : ℕ) → linesFrom n [] ≡ []
-unfolding linesFrom
-lines-none n = refl
+-- the lines of one frame more
+lines-more : (before : State) (frames : List (List ℕ)) (k : ℕ)
+    → linesTo before frames k ++ frameLine (suc k) (lineOf (frameHeard before frames (suc k))) ≡ linesTo before frames (suc k)
+unfolding linesTo
+lines-more before frames k = refl
 
-lines-more : (n : ℕ) (f : List ℕ) (fs : List (List ℕ)) → linesFrom n (f ∷ fs) ≡ frameLine n (readingOf f) ++ linesFrom (suc n) fs
-unfolding linesFrom
-lines-more n f fs = refl
+pub listing-start : (before : State) (s o : List ℕ) (start : ℕ) {p : Pass} → p ≡ startOf before s → start ≤ length o
+    → Listing before s o start o start p
+listing-start before s o start {p} is h =
+    let z = ap (λ (x : Pass). x .frames) is ∙ none-passed before s in
+    record {
+      passing = on-its-way before s is;
+      put =
+          put-as o start [] (linesTo before (framesOf s) (p .frames))
+          (lines-none before (framesOf s) ∙ ap (linesTo before (framesOf s)) (sym z)) (put-nothing o start h);
+    }
 
-module _ {s before : List ℕ} {start : ℕ} {o : List ℕ} {end at left count repaired breaks : ℕ}
-    (l : Listing s before start o end at left count repaired breaks) where
+module _ {before : State} {s o : List ℕ} {start : ℕ} {o′ : List ℕ} {end : ℕ} {p : Pass} (l : Listing before s o start o′ end p)
+    {t : Step} (is : t ≡ nextOf s p) {o″ : List ℕ} {end′ : ℕ} where
+  -- a frame was passed, and its line follows
+  pub listing-on : (t .pass .frames ≡ p .frames → ⊥) → {x : Line} → x ≡ lineOf (t .hearing)
+      → Put o′ end (frameLine (t .pass .frames) x) end′ o″
+      → Listing before s o start o″ end′ (t .pass)
+  listing-on w {x} line q =
+      let f = step-further (l .passing) is w in
+      record {
+        passing = f .passing;
+        put =
+            put-as o start (linesTo before (framesOf s) (p .frames) ++ frameLine (t .pass .frames) x)
+            (linesTo before (framesOf s) (t .pass .frames))
+            (ap₂ (λ (n : ℕ) (y : Line). linesTo before (framesOf s) (p .frames) ++ frameLine n y) (f .one)
+            (line ∙ ap lineOf (step-hears (l .passing) is))
+            ∙ lines-more before (framesOf s) (p .frames) ∙ ap (linesTo before (framesOf s)) (sym (f .one)))
+            (put-then o start _ _ (l .put) q);
+      }
+
   -- no frame is left: the last line follows
-  pub listing-done : foundAt s at left ≡ Nothing → {end′ : ℕ} {o′ : List ℕ} → Put o end (lastLine repaired breaks) end′ o′
-      → Put before start (bodyOf (framesFrom s afterHead 0)) end′ o′
+  pub listing-done : t .pass .frames ≡ p .frames → Put o′ end (lastLine (p .counts)) end′ o″
+      → Put o start (bodyOf before (framesOf s)) end′ o″
   unfolding bodyOf
-  listing-done e p =
-      put-as before start (l .text ++ lastLine repaired breaks) (bodyOf (framesFrom s afterHead 0))
-      (ap (λ (t : List ℕ). t ++ lastLine repaired breaks) lines
-      ∙ ap (λ (t : Counts). linesFrom 1 (framesFrom s afterHead 0) ++ lastLine (t .repaired) (t .breaks)) (counting-done (l .counts) e))
-      (put-then before start (l .text) (lastLine repaired breaks) (l .put) p)
-    where
-      lines : l .text ≡ linesFrom 1 (framesFrom s afterHead 0)
-      lines =
-          sym (append-nil (l .text))
-          ∙ ap (λ (t : List ℕ). l .text ++ t) (sym (ap (linesFrom (suc count)) (frames-none s at left e) ∙ lines-none (suc count)))
-          ∙ l .rest
-
-  -- the next frame, whose line follows
-  module _ (first rest : ℕ) (e : foundAt s at left ≡ At first rest) (long : length s ≤ longest) (r : Reading)
-      (taken : r ≡ readingOf (part s first (first + 18 - first))) where
-    read : r ≡ readingOf (part s first 18)
-    read = let n : first + 18 - first ≡ 18 = omega arith in taken ∙ ap (λ (m : ℕ). readingOf (part s first m)) n
-
-    pub taken-fits : tooLarge (r .indices) ≡ 0
-    taken-fits = ap (λ (x : Reading). tooLarge (x .indices)) taken ∙ reading-range (part s first (first + 18 - first)) .fits
-
-    pub listing-on : (more broken : ℕ) {end′ : ℕ} {o′ : List ℕ} → more ≡ repairBy (r .number) → broken ≡ breakBy (count + 1) (r .indices .sy)
-        → Put o end (frameLine (count + 1) r) end′ o′
-        → Listing s before start o′ end′ (first + 18) rest (count + 1) (repaired + more) (breaks + broken)
-    listing-on more broken m b p =
-        record {
-          counts = counting-on (l .counts) first rest e long r taken more broken m b;
-          text = l .text ++ frameLine (count + 1) r;
-          put = put-then before start (l .text) (frameLine (count + 1) r) (l .put) p;
-          rest =
-              append-assoc (l .text) (frameLine (count + 1) r) (linesFrom (suc (count + 1)) (framesFrom s (first + 18) rest))
-              ∙ ap (λ (t : List ℕ). l .text ++ t) (sym lines) ∙ l .rest;
-        }
-      where
-        lines : linesFrom (suc count) (framesFrom s at left)
-            ≡ frameLine (count + 1) r ++ linesFrom (suc (count + 1)) (framesFrom s (first + 18) rest)
-        lines =
-            ap (linesFrom (suc count)) (frames-more s at left first rest e)
-            ∙ lines-more (suc count) (part s first 18) (framesFrom s (first + 18) rest)
-            ∙ ap (λ (x : Reading). frameLine (suc count) x ++ linesFrom (suc (suc count)) (framesFrom s (first + 18) rest)) (sym read)
-            ∙ ap (λ (k : ℕ). frameLine k r ++ linesFrom (suc k) (framesFrom s (first + 18) rest)) (sym (add-one count))
+  listing-done w q =
+      put-as o start (linesTo before (framesOf s) (p .frames) ++ lastLine (p .counts)) (bodyOf before (framesOf s))
+      (ap₂ (λ (n : ℕ) (c : Counts). linesTo before (framesOf s) n ++ lastLine c) (step-ended (l .passing) is w)
+      (all-counted (l .passing) is w))
+      (put-then o start _ _ (l .put) q)

@@ -1,6 +1,7 @@
 pub mod Puts
 pub mod Lines
 pub mod Frames
+pub mod Told
 pub mod Short
 pub mod Listings
 pub mod Laws

@@ -1,122 +1,87 @@
 -- The lines: what the puts of each lay is that line.
 -- Assumes nothing.
-use mathlib.Core.Path.{_≡_, _∙_, sym, refl, ap, ap₂}
-use mathlib.Core.List.{List, [], _∷_, _++_, append-assoc}
+use mathlib.Core.Path.{_≡_, _∙_, sym, ap}
+use mathlib.Core.List.{List, [], _∷_, _++_}
 use Prim.Native.Nat.{ℕ}
-use lib.ListN.{getD}
-use Rattle.record.specs.Fields.{tooLarge}
-use Rattle.record.specs.declared.Record.{Record}
-use Rattle.delays.specs.Codes.{meantBy}
-use Rattle.frame.specs.declared.Reading.{Reading}
-use Rattle.values.specs.Outcome.{refusalOf}
-use Rattle.values.specs.Values.{delaysOf}
-use Rattle.values.specs.declared.Outcome.{Outcome}
-use Rattle.values.proofs.Laws.{outcome-expansion, heard-unless-one}
-use Rattle.blocks.specs.Refusals as recording
+use borrow.Author.Tests.{eq-eqb, ne-eqb}
+use Rattle.frame.specs.Answers.{correctionNumber}
+use Rattle.values.specs.Outcome as values
+use Rattle.blocks.specs.Refusals.{refusalOf, toldOf}
 use Rattle.blocks.specs.declared.Cause.{Cause}
-use Rattle.blocks.specs.declared.Heading.{Heading}
+use Rattle.blocks.specs.declared.Told.{Told}
+use Rattle.blocks.specs.declared.Told.the-variants.{Nothing, Place}
+use Rattle.blocks.specs.declared.Walk.{Walk}
+use Rattle.recording.specs.declared.Counts.{Counts}
+use Rattle.recording.specs.declared.Hearing.{Hearing}
+use Rattle.listing.specs.declared.Line.{Line}
 use Rattle.text.specs.Ascii.{ascii}
-use Rattle.text.specs.Decimal.{decimal, digitsIn}
+use Rattle.text.specs.Decimal.{decimal}
 use Rattle.text.proofs.Laid.{put-then}
-use Rattle.listing.specs.Lines.{headLine, fields, saidBy, saidOf, frameLine, lastLine, placeOf, refusedLine}
-use Rattle.listing.proofs.Puts.{Put, put-as, fields-join, fields-then}
+use Rattle.listing.specs.Lines.{told, pairLine, headLine, fields, lineOf, saidOf, frameLine, lastLine, placeShown, refusedLine}
+use Rattle.listing.proofs.Puts.{Put, put-as, fields-then}
 
--- texts of two parts each, and the line's end, are the line of all their parts
-two-told : (a b c d e : List ℕ) → a ++ b ++ (c ++ d) ++ e ≡ a ++ b ++ c ++ d ++ e
-two-told a b c d e = simp append-assoc
-
-three-told : (a b c d e f g : List ℕ) → a ++ b ++ (c ++ d) ++ (e ++ f) ++ g ≡ a ++ b ++ c ++ d ++ e ++ f ++ g
-three-told a b c d e f g = simp append-assoc
+-- the return of `put_pair`
+pub pair-put : (o : List ℕ) (at : ℕ) (first : List ℕ) (m : ℕ) (second : List ℕ) (n : ℕ) {o₁ o₂ o₃ : List ℕ} {at₁ at₂ at₃ : ℕ}
+    → Put o at (told first m) at₁ o₁ → Put o₁ at₁ (told second n) at₂ o₂ → Put o₂ at₂ (ascii "\n") at₃ o₃
+    → Put o at (pairLine first m second n) at₃ o₃
+unfolding pairLine
+pair-put o at first m second n p q e = put-then o at _ _ (put-then o at _ _ p q) e
 
 -- the return of `put_head`
-pub head-put : (o : List ℕ) (h : Heading) {o₁ o₂ o₃ o₄ : List ℕ} {at₁ at₂ at₃ at₄ : ℕ} → Put o 0 (ascii "unit " ++ decimal (h .unit)) at₁ o₁
-    → Put o₁ at₁ (ascii " recording " ++ decimal (h .number)) at₂ o₂ → Put o₂ at₂ (ascii " frames " ++ decimal (h .frames)) at₃ o₃
-    → Put o₃ at₃ (ascii "\n") at₄ o₄ → Put o 0 (headLine h) at₄ o₄
+pub head-put : (o : List ℕ) (w : Walk) {o₁ o₂ : List ℕ} {at₁ at₂ : ℕ} → Put o 0 (told (ascii "unit ") (w .heading .unit)) at₁ o₁
+    → Put o₁ at₁ (pairLine (ascii " recording ") (w .heading .number) (ascii " frames ") (w .frames)) at₂ o₂
+    → Put o 0 (headLine w) at₂ o₂
 unfolding headLine
-head-put o h p q r e =
-    put-as o 0 _ (headLine h)
-    (three-told (ascii "unit ") (decimal (h .unit)) (ascii " recording ") (decimal (h .number)) (ascii " frames ") (decimal (h .frames)) (ascii "\n"))
-    (put-then o 0 _ _ (put-then o 0 _ _ (put-then o 0 _ _ p q) r) e)
+head-put o w p q = put-then o 0 _ _ p q
 
 -- the return of `put_last`
-pub last-put : (o : List ℕ) (at repaired breaks : ℕ) {o₁ o₂ o₃ : List ℕ} {at₁ at₂ at₃ : ℕ} → Put o at (ascii "repaired " ++ decimal repaired) at₁ o₁
-    → Put o₁ at₁ (ascii " breaks " ++ decimal breaks) at₂ o₂ → Put o₂ at₂ (ascii "\n") at₃ o₃ → Put o at (lastLine repaired breaks) at₃ o₃
+pub last-put : (o : List ℕ) (at : ℕ) (c : Counts) {o₁ : List ℕ} {at₁ : ℕ}
+    → Put o at (pairLine (ascii "repaired ") (c .repaired) (ascii " breaks ") (c .breaks)) at₁ o₁ → Put o at (lastLine c) at₁ o₁
 unfolding lastLine
-last-put o at repaired breaks p q e =
-    put-as o at _ (lastLine repaired breaks)
-    (two-told (ascii "repaired ") (decimal repaired) (ascii " breaks ") (decimal breaks) (ascii "\n"))
-    (put-then o at _ _ (put-then o at _ _ p q) e)
+last-put o at c p = p
 
 -- the return of `put_refused`
-pub refused-put : (o : List ℕ) (cause : Cause) (number place : ℕ) {o₁ o₂ o₃ : List ℕ} {at₁ at₂ at₃ : ℕ} → number ≡ recording.refusalOf cause → place ≡ placeOf cause
-    → Put o 0 (ascii "refused " ++ decimal number) at₁ o₁ → Put o₁ at₁ (ascii " at " ++ decimal place) at₂ o₂
-    → Put o₂ at₂ (ascii "\n") at₃ o₃ → Put o 0 (refusedLine cause) at₃ o₃
+pub refused-put : (o : List ℕ) (cause : Cause) {number place : ℕ} {tells : Told} {o₁ : List ℕ} {at₁ : ℕ} → number ≡ refusalOf cause
+    → tells ≡ toldOf cause → place ≡ placeShown tells → Put o 0 (pairLine (ascii "refused ") number (ascii " at ") place) at₁ o₁
+    → Put o 0 (refusedLine cause) at₁ o₁
 unfolding refusedLine
-refused-put o cause number place n l p q e =
-    put-as o 0 _ (refusedLine cause)
-    (two-told (ascii "refused ") (decimal number) (ascii " at ") (decimal place) (ascii "\n")
-    ∙ ap₂ (λ (a b : ℕ). ascii "refused " ++ decimal a ++ ascii " at " ++ decimal b ++ ascii "\n") n l)
-    (put-then o 0 _ _ (put-then o 0 _ _ p q) e)
+refused-put o cause {number} {place} n t l p =
+    put-as o 0 (pairLine (ascii "refused ") number (ascii " at ") place) (refusedLine cause)
+    (λ i. pairLine (ascii "refused ") (n i) (ascii " at ") ((l ∙ ap placeShown t) i)) p
 
--- the four delays
-delays-four : (r : Record) → fields (getD (delaysOf r) 0 0 ∷ getD (delaysOf r) 1 0 ∷ getD (delaysOf r) 2 0 ∷ getD (delaysOf r) 3 0 ∷ []) ≡ fields (delaysOf r)
-unfolding delaysOf meantBy
-delays-four r = refl
+-- the returns of `place_shown`
+pub shown : (t : Told) {u : Told} {n : ℕ} → t ≡ u → n ≡ placeShown u → n ≡ placeShown t
+shown t e is = is ∙ ap placeShown (sym e)
 
--- the return of `put_delays`
-pub delays-put : (o : List ℕ) (at : ℕ) (r : Record) (d : List ℕ) {o₁ o₂ o₃ o₄ : List ℕ} {at₁ at₂ at₃ at₄ : ℕ} → d ≡ delaysOf r
-    → Put o at (fields (getD d 0 0 ∷ [])) at₁ o₁ → Put o₁ at₁ (fields (getD d 1 0 ∷ [])) at₂ o₂ → Put o₂ at₂ (fields (getD d 2 0 ∷ [])) at₃ o₃
-    → Put o₃ at₃ (fields (getD d 3 0 ∷ [])) at₄ o₄ → Put o at (fields (delaysOf r)) at₄ o₄
-delays-put o at r d e p q u v =
-    put-as o at (fields (getD d 0 0 ∷ getD d 1 0 ∷ getD d 2 0 ∷ getD d 3 0 ∷ [])) (fields (delaysOf r))
-    (ap (λ (l : List ℕ). fields (getD l 0 0 ∷ getD l 1 0 ∷ getD l 2 0 ∷ getD l 3 0 ∷ [])) e ∙ delays-four r)
-    (fields-then o at (getD d 0 0 ∷ getD d 1 0 ∷ getD d 2 0 ∷ []) (getD d 3 0 ∷ [])
-    (fields-then o at (getD d 0 0 ∷ getD d 1 0 ∷ []) (getD d 2 0 ∷ []) (fields-then o at (getD d 0 0 ∷ []) (getD d 1 0 ∷ []) p q) u) v)
+-- the return of `line_of`
+pub line-is : (h : Hearing) {refusal correction : ℕ} → refusal ≡ values.refusalOf (h .values .outcome)
+    → correction ≡ correctionNumber (h .reading)
+    → record { correction = correction; refusal = refusal; mark = h .reading .mark; sy = h .reading .indices .sy; delays = h .values .delays }
+    ≡ lineOf h
+line-is h p q =
+    λ i. record { correction = q i; refusal = p i; mark = h .reading .mark; sy = h .reading .indices .sy; delays = h .values .delays }
 
--- the line of a frame, given that what was read fits its fields
-module _ (n : ℕ) (r : Reading) (fits : tooLarge (r .indices) ≡ 0) where
-  -- refused, if SP is 1
-  said-refused : r .indices .sp ≡ 1 → saidOf r ≡ ascii " refused 6"
-  unfolding saidOf decimal digitsIn
-  said-refused e = ap (λ (o : Outcome). saidBy (refusalOf o) r) (outcome-expansion (r .indices) fits e)
+-- the return of `put_line`
+pub line-put : (o : List ℕ) (at n : ℕ) (l : Line) {o₁ o₂ o₃ o₄ : List ℕ} {at₁ at₂ at₃ at₄ : ℕ} → Put o at (decimal n) at₁ o₁
+    → Put o₁ at₁ (fields (l .correction ∷ [])) at₂ o₂ → Put o₂ at₂ (saidOf l) at₃ o₃ → Put o₃ at₃ (ascii "\n") at₄ o₄
+    → Put o at (frameLine n l) at₄ o₄
+unfolding frameLine
+line-put o at n l p q u e = put-then o at _ _ (put-then o at _ _ (put-then o at _ _ p q) u) e
 
-  pub refused-line : r .indices .sp ≡ 1 → decimal n ++ fields (r .number ∷ []) ++ ascii " refused 6\n" ≡ frameLine n r
-  unfolding frameLine
-  refused-line e =
-      sym (append-assoc (decimal n ++ fields (r .number ∷ [])) (ascii " refused 6") (ascii "\n"))
-      ∙ ap (λ (l : List ℕ). decimal n ++ fields (r .number ∷ []) ++ l ++ ascii "\n") (sym (said-refused e))
+-- the return of `put_numbers`
+pub numbers-put : (o : List ℕ) (at mark sy : ℕ) (delays : List ℕ) {o₁ o₂ o₃ : List ℕ} {at₁ at₂ at₃ : ℕ}
+    → Put o at (fields (mark ∷ [])) at₁ o₁ → Put o₁ at₁ (fields (sy ∷ [])) at₂ o₂ → Put o₂ at₂ (fields delays) at₃ o₃
+    → Put o at (fields (mark ∷ sy ∷ delays)) at₃ o₃
+numbers-put o at mark sy delays p q u =
+    fields-then o at (mark ∷ sy ∷ []) delays (fields-then o at (mark ∷ []) (sy ∷ []) p q) u
 
-  -- else with order mark, SY and delays
-  said-heard : (r .indices .sp ≡ 1 → ⊥) → saidOf r ≡ fields (r .mark ∷ []) ++ fields (r .indices .sy ∷ []) ++ fields (delaysOf (r .indices))
+-- the returns of `put_said`: a refusal, or the numbers
+module _ (o : List ℕ) (at : ℕ) (l : Line) {o₁ : List ℕ} {at₁ : ℕ} where
+  pub said-refused : (l .refusal ≡ 0 → ⊥) → Put o at (told (ascii " refused ") (l .refusal)) at₁ o₁ → Put o at (saidOf l) at₁ o₁
   unfolding saidOf
-  said-heard w =
-      ap (λ (o : Outcome). saidBy (refusalOf o) r) (heard-unless-one (r .indices) fits w)
-      ∙ fields-join (r .mark ∷ r .indices .sy ∷ []) (delaysOf (r .indices))
-      ∙ ap (λ (l : List ℕ). l ++ fields (delaysOf (r .indices))) (fields-join (r .mark ∷ []) (r .indices .sy ∷ []))
+  said-refused w p =
+      put-as o at (told (ascii " refused ") (l .refusal)) (saidOf l) (rw (ne-eqb (l .refusal) 0 w)) p
 
-  pub heard-line : (r .indices .sp ≡ 1 → ⊥)
-      → decimal n ++ fields (r .number ∷ []) ++ fields (r .mark ∷ []) ++ fields (r .indices .sy ∷ []) ++ fields (delaysOf (r .indices)) ++ ascii "\n"
-      ≡ frameLine n r
-  unfolding frameLine
-  heard-line w =
-      ap (λ (l : List ℕ). l ++ ascii "\n")
-      (regroup (decimal n ++ fields (r .number ∷ [])) (fields (r .mark ∷ [])) (fields (r .indices .sy ∷ [])) (fields (delaysOf (r .indices))))
-      ∙ ap (λ (l : List ℕ). decimal n ++ fields (r .number ∷ []) ++ l ++ ascii "\n") (sym (said-heard w))
-    where
-      regroup : (a b c d : List ℕ) → a ++ b ++ c ++ d ≡ a ++ (b ++ c ++ d)
-      regroup a b c d = simp append-assoc
-
--- the returns of `put_line`
-module _ (o : List ℕ) (at n : ℕ) (r : Reading) (fits : tooLarge (r .indices) ≡ 0) {o₁ o₂ : List ℕ} {at₁ at₂ : ℕ}
-    (p : Put o at (decimal n) at₁ o₁) (q : Put o₁ at₁ (fields (r .number ∷ [])) at₂ o₂) where
-  pub refused-line-put : r .indices .sp ≡ 1 → {o₃ : List ℕ} {at₃ : ℕ} → Put o₂ at₂ (ascii " refused 6\n") at₃ o₃ → Put o at (frameLine n r) at₃ o₃
-  refused-line-put e u =
-      put-as o at (decimal n ++ fields (r .number ∷ []) ++ ascii " refused 6\n") (frameLine n r) (refused-line n r fits e)
-      (put-then o at _ _ (put-then o at _ _ p q) u)
-
-  pub heard-line-put : (r .indices .sp ≡ 1 → ⊥) → {o₃ o₄ o₅ o₆ : List ℕ} {at₃ at₄ at₅ at₆ : ℕ} → Put o₂ at₂ (fields (r .mark ∷ [])) at₃ o₃
-      → Put o₃ at₃ (fields (r .indices .sy ∷ [])) at₄ o₄ → Put o₄ at₄ (fields (delaysOf (r .indices))) at₅ o₅
-      → Put o₅ at₅ (ascii "\n") at₆ o₆ → Put o at (frameLine n r) at₆ o₆
-  heard-line-put w m y d e =
-      put-as o at _ (frameLine n r) (heard-line n r fits w)
-      (put-then o at _ _ (put-then o at _ _ (put-then o at _ _ (put-then o at _ _ (put-then o at _ _ p q) m) y) d) e)
+  pub said-heard : l .refusal ≡ 0 → Put o at (fields (l .mark ∷ l .sy ∷ l .delays)) at₁ o₁ → Put o at (saidOf l) at₁ o₁
+  unfolding saidOf
+  said-heard z p = put-as o at (fields (l .mark ∷ l .sy ∷ l .delays)) (saidOf l) (rw (eq-eqb (l .refusal) 0 z)) p

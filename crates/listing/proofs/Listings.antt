@@ -7,22 +7,25 @@ use native.Mathlib.Omega.{arith}
 use borrow.Author.Tests.{eq-eqb, ne-eqb}
 use lib.ListN.{length, drop, getD}
 use lib.Seq.{take-all}
-use Rattle.blocks.specs.Walk.{longest, walkedOf}
-use Rattle.blocks.specs.Frames.{afterHead, framesOf, framesFrom}
+use Rattle.values.specs.Values.{freshState}
+use Rattle.values.specs.declared.State.{State}
+use Rattle.blocks.specs.Walk.{walkedOf}
+use Rattle.blocks.specs.Frames.{framesOf}
 use Rattle.blocks.specs.declared.Cause.{Cause}
-use Rattle.blocks.specs.declared.Heading.{Heading}
+use Rattle.blocks.specs.declared.Ending.{Ending}
+use Rattle.blocks.specs.declared.Ending.the-variants.{Sound, Refused}
+use Rattle.blocks.specs.declared.Walk.{Walk}
 use Rattle.blocks.specs.declared.Walked.{Walked}
-use Rattle.blocks.specs.declared.Walked.the-variants.{Whole, Refused}
-use Rattle.blocks.proofs.Walks.{whole-short}
-use Rattle.blocks.proofs.Frames.{frames-whole}
+use Rattle.recording.specs.Pass.{begunAt}
+use Rattle.recording.specs.declared.Pass.{Pass}
 use Rattle.text.specs.Laid.{laid}
 use Rattle.text.proofs.Laid.{put-then}
 use Rattle.listing.specs.Lines.{headLine, refusedLine}
-use Rattle.listing.specs.Listing.{bodyOf, textOf, listingOf, room, listedOf, listingLeft}
+use Rattle.listing.specs.Listing.{bodyOf, soundText, textBy, listingOf, room, listedOf, listingLeft}
 use Rattle.listing.specs.Promised.{ListingFits}
 use Rattle.listing.specs.declared.Listed.{Listed}
 use Rattle.listing.specs.declared.Listed.the-variants.{Text, WrongLength}
-use Rattle.listing.proofs.Puts.{Put, put-as, put-length}
+use Rattle.listing.proofs.Puts.{Put, put-as}
 use Rattle.listing.proofs.Short.{listing-fits}
 
 -- what is answered, and what the buffer holds then
@@ -51,25 +54,29 @@ module _ (s o : List ℕ) (bytes : (i : ℕ) → getD s i 0 < 256) (long : lengt
       let l : length (listingOf s) ≤ length o = omega arith in
       (rw (eq-eqb (length o) room long) (ap Text e), rw (eq-eqb (length o) room long) (p .1 ∙ laid-front o (listingOf s) l))
 
-  text-is : (w : Walked) → walkedOf s ≡ w → textOf w (framesOf s) ≡ listingOf s
-  unfolding listingOf
-  text-is w e = ap (λ (x : Walked). textOf x (framesOf s)) (sym e)
+  module _ {w : Walked} (is : w ≡ walkedOf s) where
+    text-is : (e : Ending) → w .ending ≡ e → textBy e (soundText (w .walk) (framesOf s)) ≡ listingOf s
+    unfolding listingOf
+    text-is e ends =
+        ap (λ (x : Ending). textBy x (soundText (w .walk) (framesOf s))) (sym ends)
+        ∙ ap (λ (x : Walked). textBy (x .ending) (soundText (x .walk) (framesOf s))) is
 
-  -- a refused recording
-  pub listed-refused : (cause : Cause) → walkedOf s ≡ Refused cause → {end : ℕ} {o′ : List ℕ} → Put o 0 (refusedLine cause) end o′
-      → Answered s o (Text end) o′
-  listed-refused cause e p = listed-whole (put-as o 0 (refusedLine cause) (listingOf s) (text-is (Refused cause) e) p)
+    -- a refused recording
+    pub listed-refused : {cause : Cause} → w .ending ≡ Refused cause → {end : ℕ} {o′ : List ℕ} → Put o 0 (refusedLine cause) end o′
+        → Answered s o (Text end) o′
+    listed-refused {cause} ends p = listed-whole (put-as o 0 (refusedLine cause) (listingOf s) (text-is (Refused cause) ends) p)
 
-  -- a sound one: the first line, and then the frames
-  pub listed-sound : (h : Heading) → walkedOf s ≡ Whole h → {start end : ℕ} {o₁ o₂ : List ℕ} → Put o 0 (headLine h) start o₁
-      → Put o₁ start (bodyOf (framesFrom s afterHead 0)) end o₂ → Answered s o (Text end) o₂
-  listed-sound h e p q =
-      listed-whole
-      (put-as o 0 (headLine h ++ bodyOf (framesFrom s afterHead 0)) (listingOf s)
-      (ap (λ (fs : List (List ℕ)). headLine h ++ bodyOf fs) (sym (frames-whole s h e)) ∙ text-is (Whole h) e)
-      (put-then o 0 (headLine h) (bodyOf (framesFrom s afterHead 0)) p q))
+    -- a sound one
+    pub listed-sound : w .ending ≡ Sound → {end : ℕ} {o′ : List ℕ} → Put o 0 (soundText (w .walk) (framesOf s)) end o′
+        → Answered s o (Text end) o′
+    listed-sound ends p = listed-whole (put-as o 0 (soundText (w .walk) (framesOf s)) (listingOf s) (text-is Sound ends) p)
 
--- the frames' lines start within the buffer
-pub head-within : (s o : List ℕ) (h : Heading) → walkedOf s ≡ Whole h → {start : ℕ} {o₁ : List ℕ} → Put o 0 (headLine h) start o₁
-    → (length s ≤ longest) × (start ≤ length o₁)
-head-within s o h e p = (whole-short s h e, omega (arith, p .0, put-length o 0 (headLine h) p))
+-- the return of `put_sound`: the first line, and then the frames, from a fresh state on
+pub sound-put : (o : List ℕ) (w : Walk) (frames : List (List ℕ)) {fresh : State} {begun : Pass} → fresh ≡ freshState
+    → begun ≡ begunAt (w .voices) fresh → {start end : ℕ} {o₁ o₂ : List ℕ} → Put o 0 (headLine w) start o₁
+    → Put o₁ start (bodyOf (begun .state) frames) end o₂ → Put o 0 (soundText w frames) end o₂
+unfolding soundText
+sound-put o w frames {fresh} {begun} same is p q =
+    put-as o 0 (headLine w ++ bodyOf (begun .state) frames) (soundText w frames)
+    (ap (λ (x : State). headLine w ++ bodyOf x frames) (ap (λ (x : Pass). x .state) is ∙ same))
+    (put-then o 0 (headLine w) (bodyOf (begun .state) frames) p q)

@@ -3,47 +3,65 @@ use mathlib.Core.Bool.{cond}
 use mathlib.Core.List.{List, [], _∷_, _++_}
 use Prim.Native.Nat.{ℕ}
 use lib.Dec.{eqb}
-use lib.ListN.{getD}
-use Rattle.frame.specs.declared.Reading.{Reading}
-use Rattle.values.specs.Outcome.{outcomeOf, refusalOf}
-use Rattle.values.specs.Values.{delaysOf}
+use Rattle.frame.specs.Answers.{correctionNumber}
+use Rattle.values.specs.Outcome as values
 use Rattle.blocks.specs.Walk.{longest}
-use Rattle.blocks.specs.Refusals as recording
+use Rattle.blocks.specs.Refusals.{refusalOf, toldOf}
 use Rattle.blocks.specs.declared.Cause.{Cause}
-use Rattle.blocks.specs.declared.Heading.{Heading}
+use Rattle.blocks.specs.declared.Told.{Told}
+use Rattle.blocks.specs.declared.Told.the-variants.{Nothing, Place}
+use Rattle.blocks.specs.declared.Walk.{Walk}
+use Rattle.recording.specs.declared.Counts.{Counts}
+use Rattle.recording.specs.declared.Hearing.{Hearing}
+use Rattle.listing.specs.declared.Line.{Line}
 use Rattle.text.specs.Ascii.{ascii}
 use Rattle.text.specs.Decimal.{decimal}
 
+-- a word and the number that it tells, and a line of two such
+abbrev pub told : List ℕ → ℕ → List ℕ
+told word n = word ++ decimal n
+
+unfoldable pub pairLine : List ℕ → ℕ → List ℕ → ℕ → List ℕ
+pairLine first m second n = told first m ++ told second n ++ ascii "\n"
+
 -- first line: unit, recording number, frames
-unfoldable pub headLine : Heading → List ℕ
-headLine h =
-    ascii "unit " ++ decimal (h .unit) ++ ascii " recording " ++ decimal (h .number) ++ ascii " frames " ++ decimal (h .frames)
-    ++ ascii "\n"
+unfoldable pub headLine : Walk → List ℕ
+headLine w =
+    told (ascii "unit ") (w .heading .unit) ++ pairLine (ascii " recording ") (w .heading .number) (ascii " frames ") (w .frames)
 
 -- numbers that follow a field, each one space after the one before
 unfoldable pub fields : List ℕ → List ℕ
 fields [] = []
 fields (n ∷ ns) = ascii " " ++ decimal n ++ fields ns
 
--- what is said of a reading: its refusal as a record turned into values, if it has one, or order mark, SY, four delays in twelfths
-abbrev pub saidBy : ℕ → Reading → List ℕ
-saidBy refusal r =
-    cond (eqb refusal 0) (fields (r .mark ∷ r .indices .sy ∷ delaysOf (r .indices))) (ascii " refused " ++ decimal refusal)
+-- what a line prints of a frame that was heard: correction number, its refusal as a record turned into values (0 where there is
+-- none), order mark, SY, four delays in twelfths
+abbrev pub lineOf : Hearing → Line
+lineOf h =
+    record {
+      correction = correctionNumber (h .reading);
+      refusal = values.refusalOf (h .values .outcome);
+      mark = h .reading .mark;
+      sy = h .reading .indices .sy;
+      delays = h .values .delays;
+    }
 
-unfoldable pub saidOf : Reading → List ℕ
-saidOf r = saidBy (refusalOf (outcomeOf (r .indices))) r
+-- after the correction number: order mark, SY, four delays; or the refusal
+unfoldable pub saidOf : Line → List ℕ
+saidOf l = cond (eqb (l .refusal) 0) (fields (l .mark ∷ l .sy ∷ l .delays)) (told (ascii " refused ") (l .refusal))
 
 -- the line of frame n: frame number, correction number, and what is said of it
-unfoldable pub frameLine : ℕ → Reading → List ℕ
-frameLine n r = decimal n ++ fields (r .number ∷ []) ++ saidOf r ++ ascii "\n"
+unfoldable pub frameLine : ℕ → Line → List ℕ
+frameLine n l = decimal n ++ fields (l .correction ∷ []) ++ saidOf l ++ ascii "\n"
 
 -- last line: repaired frames and sync breaks
-unfoldable pub lastLine : ℕ → ℕ → List ℕ
-lastLine repaired breaks = ascii "repaired " ++ decimal repaired ++ ascii " breaks " ++ decimal breaks ++ ascii "\n"
+unfoldable pub lastLine : Counts → List ℕ
+lastLine c = pairLine (ascii "repaired ") (c .repaired) (ascii " breaks ") (c .breaks)
 
--- the one line of a refused recording: the refusal's number and its place, which is 65536 where the refusal tells none
-abbrev pub placeOf : Cause → ℕ
-placeOf cause = getD (recording.tellsOf cause) 0 longest
+-- the one line of a refused recording: the refusal's number and the place it tells, 65536 where it tells nothing
+abbrev pub placeShown : Told → ℕ
+placeShown Nothing = longest
+placeShown (Place p) = p
 
 unfoldable pub refusedLine : Cause → List ℕ
-refusedLine cause = ascii "refused " ++ decimal (recording.refusalOf cause) ++ ascii " at " ++ decimal (placeOf cause) ++ ascii "\n"
+refusedLine cause = pairLine (ascii "refused ") (refusalOf cause) (ascii " at ") (placeShown (toldOf cause))

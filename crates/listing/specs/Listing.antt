@@ -1,35 +1,43 @@
 -- The listing of a recording, byte for byte, and what a lent buffer holds after it.
 use mathlib.Core.Bool.{cond}
-use mathlib.Core.List.{List, [], _∷_, _++_}
-use Prim.Native.Nat.{ℕ, suc}
+use mathlib.Core.List.{List, [], _++_}
+use Prim.Native.Nat.{ℕ, zero, suc}
 use lib.Dec.{eqb}
 use lib.ListN.{length, drop}
-use Rattle.frame.specs.Answers.{readingOf}
+use Rattle.values.specs.Values.{freshState}
+use Rattle.values.specs.declared.State.{State}
 use Rattle.blocks.specs.Walk.{walkedOf}
 use Rattle.blocks.specs.Frames.{framesOf}
-use Rattle.recording.specs.Judged.{repairedIn, breaksFrom}
-use Rattle.blocks.specs.declared.Walked.{Walked}
-use Rattle.blocks.specs.declared.Walked.the-variants.{Whole, Refused}
-use Rattle.listing.specs.Lines.{headLine, frameLine, lastLine, refusedLine}
+use Rattle.blocks.specs.declared.Walk.{Walk}
+use Rattle.blocks.specs.declared.Ending.{Ending}
+use Rattle.blocks.specs.declared.Ending.the-variants.{Sound, Refused}
+use Rattle.recording.specs.Counted.{countsOf}
+use Rattle.recording.specs.Pass.{frameHeard}
+use Rattle.listing.specs.Lines.{headLine, lineOf, frameLine, lastLine, refusedLine}
 use Rattle.listing.specs.declared.Listed.{Listed}
 use Rattle.listing.specs.declared.Listed.the-variants.{Text, WrongLength}
 
--- a line for each of the frames, numbered from n on
-unfoldable pub linesFrom : ℕ → List (List ℕ) → List ℕ
-linesFrom n [] = []
-linesFrom n (f ∷ fs) = frameLine n (readingOf f) ++ linesFrom (suc n) fs
+-- a line for each of the first k frames, heard one after the other from a state on
+unfoldable pub linesTo : State → List (List ℕ) → ℕ → List ℕ
+linesTo before frames zero = []
+linesTo before frames (suc k) = linesTo before frames k ++ frameLine (suc k) (lineOf (frameHeard before frames (suc k)))
 
--- after the first line, of all frames: their lines, and the counts in which each has its part
-unfoldable pub bodyOf : List (List ℕ) → List ℕ
-bodyOf fs = linesFrom 1 fs ++ lastLine (repairedIn fs) (breaksFrom 1 fs)
+-- after the first line: the lines of all frames, and their counts
+unfoldable pub bodyOf : State → List (List ℕ) → List ℕ
+bodyOf before frames = linesTo before frames (length frames) ++ lastLine (countsOf frames)
 
-abbrev pub textOf : Walked → List (List ℕ) → List ℕ
-textOf (Whole h) fs = headLine h ++ bodyOf fs
-textOf (Refused cause) fs = refusedLine cause
+-- a sound recording: the first line, and then the frames, from a fresh state on
+unfoldable pub soundText : Walk → List (List ℕ) → List ℕ
+soundText walk frames = headLine walk ++ bodyOf freshState frames
+
+-- a refused recording prints only that
+abbrev pub textBy : Ending → List ℕ → List ℕ
+textBy Sound text = text
+textBy (Refused cause) text = refusedLine cause
 
 -- any bytes
 unfoldable pub listingOf : List ℕ → List ℕ
-listingOf s = textOf (walkedOf s) (framesOf s)
+listingOf s = textBy (walkedOf s .ending) (soundText (walkedOf s .walk) (framesOf s))
 
 -- the lent buffer has room for every listing
 abbrev pub room : ℕ

@@ -1,29 +1,38 @@
 // The listing of a recording: its text, byte for byte, laid into a lent buffer.
 // Each put lays its text after the last one, as far as there is room; that the whole text has room is asked once, of the listing.
 use blocks::Cause;
-use blocks::Found;
-use blocks::Heading;
-use blocks::Walked;
-use frame::Reading;
-use record::Record;
+use blocks::Ending;
+use blocks::Told;
+use blocks::Walk;
+use recording::Counts;
+use recording::Hearing;
+use recording::Pass;
+use values::State;
 ghost use mathlib.Core.Path.{_≡_};
-ghost use mathlib.Core.List.{[], _∷_, _++_};
+ghost use mathlib.Core.List.{[], _∷_};
 ghost use Prim.Native.Nat.{_≤_};
 ghost use lib.ListN.{length};
-ghost use Rattle.record.specs.Fields.{tooLarge};
-ghost use Rattle.values.specs.Values.{delaysOf};
-ghost use Rattle.text.specs.Decimal.{decimal};
 ghost use Rattle.text.specs.Laid.{laid, after};
-ghost use Rattle.blocks.specs.Walk.{longest};
-ghost use Rattle.blocks.specs.Frames.{afterHead, framesFrom};
-ghost use Rattle.blocks.specs.Refusals.{refusalOf};
-ghost use Rattle.listing.specs.Lines.{headLine, fields, frameLine, lastLine, placeOf, refusedLine};
-ghost use Rattle.listing.specs.Listing.{bodyOf, listedOf, listingLeft};
+ghost use Rattle.blocks.specs.Walk.{walkedOf};
+ghost use Rattle.blocks.specs.Frames.{framesOf};
+ghost use Rattle.recording.specs.Pass.{startOf};
+ghost use Rattle.listing.specs.Lines.{told, pairLine, headLine, fields, lineOf, saidOf, frameLine, lastLine, placeShown, refusedLine};
+ghost use Rattle.listing.specs.Listing.{bodyOf, soundText, listedOf, listingLeft};
+ghost use Rattle.blocks.specs.declared.Ending.the-variants.{Sound};
 
 // The length of the text that was laid, or that the buffer was not 131,072 bytes.
 pub enum Listed {
     Text(usize),
     WrongLength,
+}
+
+// What a line prints of a frame: its correction number, its refusal (0 where there is none), order mark, SY, four delays in twelfths.
+pub struct Line {
+    pub correction: usize,
+    pub refusal: u32,
+    pub mark: usize,
+    pub sy: u16,
+    pub delays: [u16; 4],
 }
 
 // Lists any bytes as a recording, into a lent buffer. A refusal writes nothing.
@@ -34,97 +43,133 @@ pub fn list(s: &[u8], out: &mut [u8]) -> Listed
     if out.len() != 131072 {
         return Listed::WrongLength;
     }
-    match blocks::walk_through(s) {
-        Walked::Refused(cause) => {
+    let walked = blocks::walk_through(s);
+    let ending = walked.ending;
+    match ending {
+        Ending::Refused(cause) => {
             let end = put_refused(out, cause);
             Listed::Text(end)
         }
-        Walked::Whole(heading) => {
-            let start = put_head(out, heading);
-            let end = put_frames(out, start, s);
+        Ending::Sound => {
+            let end = put_sound(out, s, walked.walk);
             Listed::Text(end)
         }
     }
 }
 
+// Lays all lines of a sound recording whose blocks were walked.
+fn put_sound(out: &mut [u8], s: &[u8], walk: Walk) -> usize
+    requires { ⌜ walk ≡ walkedOf (now s) .walk ⌝ }
+    requires { ⌜ walkedOf (now s) .ending ≡ Sound ⌝ }
+    ensures { λ r. ⌜ r ≡ after (now (out .entry)) 0 (soundText walk (framesOf (now (s .entry)))) ⌝ }
+    ensures { λ _. ⌜ now (out .exit) ≡ laid (now (out .entry)) 0 (soundText walk (framesOf (now (s .entry)))) ⌝ }
+{
+    let start = put_head(out, walk);
+    let begun = recording::begin(walk, State::fresh());
+    put_frames(out, start, s, begun)
+}
+
 // Lays the first line.
-fn put_head(out: &mut [u8], heading: Heading) -> usize
-    ensures { λ r. ⌜ r ≡ after (now (out .entry)) 0 (headLine heading) ⌝ }
-    ensures { λ _. ⌜ now (out .exit) ≡ laid (now (out .entry)) 0 (headLine heading) ⌝ }
+fn put_head(out: &mut [u8], walk: Walk) -> usize
+    ensures { λ r. ⌜ r ≡ after (now (out .entry)) 0 (headLine walk) ⌝ }
+    ensures { λ _. ⌜ now (out .exit) ≡ laid (now (out .entry)) 0 (headLine walk) ⌝ }
 {
-    let unit = put_told(out, 0, b"unit ", heading.unit as u64);
-    let number = put_told(out, unit, b" recording ", heading.number as u64);
-    let frames = put_told(out, number, b" frames ", heading.frames as u64);
-    text::put_byte(out, frames, b'\n')
+    let unit = put_told(out, 0, b"unit ", walk.heading.unit as u64);
+    put_pair(
+        out,
+        unit,
+        b" recording ",
+        walk.heading.number as u64,
+        b" frames ",
+        walk.frames as u64,
+    )
 }
 
-// Lays a word and the number that it tells.
-fn put_told(out: &mut [u8], at: usize, word: &[u8], n: u64) -> usize
-    ensures { λ r. ⌜ r ≡ after (now (out .entry)) at (now (word .entry) ++ decimal n) ⌝ }
-    ensures { λ _. ⌜ now (out .exit) ≡ laid (now (out .entry)) at (now (word .entry) ++ decimal n) ⌝ }
-{
-    let number = text::put_word(out, at, word);
-    text::put_number(out, number, n)
-}
-
-// Lays a line for each frame, and the last line with the counts.
-fn put_frames(out: &mut [u8], start: usize, s: &[u8]) -> usize
-    requires { ⌜ length (now s) ≤ longest ⌝ }
+// Lays a line for each frame of a pass before the first, and the last line with the counts.
+fn put_frames(out: &mut [u8], start: usize, s: &[u8], begun: Pass) -> usize
+    requires { ⌜ begun ≡ startOf (begun .state) (now s) ⌝ }
     requires { ⌜ start ≤ length (now out) ⌝ }
-    ensures { λ r. ⌜ r ≡ after (now (out .entry)) start (bodyOf (framesFrom (now (s .entry)) afterHead 0)) ⌝ }
-    ensures { λ _. ⌜ now (out .exit) ≡ laid (now (out .entry)) start (bodyOf (framesFrom (now (s .entry)) afterHead 0)) ⌝ }
+    ensures { λ r. ⌜ r ≡ after (now (out .entry)) start (bodyOf (begun .state) (framesOf (now (s .entry)))) ⌝ }
+    ensures { λ _. ⌜ now (out .exit) ≡ laid (now (out .entry)) start (bodyOf (begun .state) (framesOf (now (s .entry)))) ⌝ }
 {
     let mut end = start;
-    let mut at = 14;
-    let mut left = 0;
-    let mut count: u32 = 0;
-    let mut repaired: u32 = 0;
-    let mut breaks: u32 = 0;
+    let mut pass = begun;
     loop {
-        match blocks::find(s, at, left) {
-            Found::Nothing => return put_last(out, end, repaired, breaks),
-            Found::At(first, rest) => {
-                let next = first + 18;
-                let reading = frame::read(&s[first..next]);
-                count += 1;
-                end = put_line(out, end, count, reading);
-                repaired += recording::repair_by(reading.number);
-                breaks += recording::break_by(count, reading.indices.sy);
-                at = next;
-                left = rest;
-            }
+        let step = recording::next(s, pass);
+        if step.pass.frames == pass.frames {
+            return put_last(out, end, pass.counts);
         }
+        let line = line_of(step.hearing);
+        pass = step.pass;
+        end = put_line(out, end, pass.frames, line);
     }
 }
 
-// Lays the line of a frame.
-fn put_line(out: &mut [u8], at: usize, count: u32, reading: Reading) -> usize
-    requires { ⌜ tooLarge (reading .indices) ≡ 0 ⌝ }
-    ensures { λ r. ⌜ r ≡ after (now (out .entry)) at (frameLine count reading) ⌝ }
-    ensures { λ _. ⌜ now (out .exit) ≡ laid (now (out .entry)) at (frameLine count reading) ⌝ }
+// What a line prints of a frame that was heard.
+fn line_of(hearing: Hearing) -> Line
+    ensures { λ r. ⌜ r ≡ lineOf hearing ⌝ }
 {
-    let indices = reading.indices;
-    let numbered = text::put_number(out, at, count as u64);
-    let corrected = put_field(out, numbered, reading.number as u64);
-    if indices.sp == 1 {
-        return text::put_word(out, corrected, b" refused 6\n");
+    let values = hearing.values;
+    let outcome = values.outcome;
+    let refusal = outcome.refusal_number();
+    let correction = hearing.reading.correction_number();
+    let delays = values.delays;
+    Line {
+        correction,
+        refusal,
+        mark: hearing.reading.mark,
+        sy: hearing.reading.indices.sy,
+        delays,
     }
-    let marked = put_field(out, corrected, reading.mark as u64);
-    let synced = put_field(out, marked, indices.sy as u64);
-    let delayed = put_delays(out, synced, indices);
-    text::put_byte(out, delayed, b'\n')
 }
 
-// Lays the four delays of a record.
-fn put_delays(out: &mut [u8], at: usize, indices: Record) -> usize
-    ensures { λ r. ⌜ r ≡ after (now (out .entry)) at (fields (delaysOf indices)) ⌝ }
-    ensures { λ _. ⌜ now (out .exit) ≡ laid (now (out .entry)) at (fields (delaysOf indices)) ⌝ }
+// Lays the line of frame n.
+fn put_line(out: &mut [u8], at: usize, n: u32, line: Line) -> usize
+    ensures { λ r. ⌜ r ≡ after (now (out .entry)) at (frameLine n line) ⌝ }
+    ensures { λ _. ⌜ now (out .exit) ≡ laid (now (out .entry)) at (frameLine n line) ⌝ }
 {
-    let d = values::delays_of(indices);
-    let first = put_field(out, at, d[0] as u64);
-    let second = put_field(out, first, d[1] as u64);
-    let third = put_field(out, second, d[2] as u64);
-    put_field(out, third, d[3] as u64)
+    let numbered = text::put_number(out, at, n as u64);
+    let corrected = put_field(out, numbered, line.correction as u64);
+    let said = put_said(out, corrected, line);
+    text::put_byte(out, said, b'\n')
+}
+
+// Lays what is said of a frame after its correction number.
+fn put_said(out: &mut [u8], at: usize, line: Line) -> usize
+    ensures { λ r. ⌜ r ≡ after (now (out .entry)) at (saidOf line) ⌝ }
+    ensures { λ _. ⌜ now (out .exit) ≡ laid (now (out .entry)) at (saidOf line) ⌝ }
+{
+    if line.refusal != 0 {
+        return put_told(out, at, b" refused ", line.refusal as u64);
+    }
+    let delays = line.delays;
+    put_numbers(out, at, line.mark, line.sy, delays)
+}
+
+// Lays the numbers of a frame that has values.
+fn put_numbers(out: &mut [u8], at: usize, mark: usize, sy: u16, delays: [u16; 4]) -> usize
+    ensures { λ r. ⌜ r ≡ after (now (out .entry)) at (fields (mark ∷ sy ∷ delays)) ⌝ }
+    ensures { λ _. ⌜ now (out .exit) ≡ laid (now (out .entry)) at (fields (mark ∷ sy ∷ delays)) ⌝ }
+{
+    let marked = put_field(out, at, mark as u64);
+    let synced = put_field(out, marked, sy as u64);
+    put_fields(out, synced, &delays)
+}
+
+// Lays numbers, each one space after what was laid.
+fn put_fields(out: &mut [u8], at: usize, numbers: &[u16]) -> usize
+    requires { ⌜ at ≤ length (now out) ⌝ }
+    ensures { λ r. ⌜ r ≡ after (now (out .entry)) at (fields (now (numbers .entry))) ⌝ }
+    ensures { λ _. ⌜ now (out .exit) ≡ laid (now (out .entry)) at (fields (now (numbers .entry))) ⌝ }
+{
+    let mut end = at;
+    let mut k = 0;
+    while k < numbers.len() {
+        let number = numbers[k] as u64;
+        end = put_field(out, end, number);
+        k += 1;
+    }
+    end
 }
 
 // Lays a number one space after what was laid.
@@ -137,13 +182,18 @@ fn put_field(out: &mut [u8], at: usize, n: u64) -> usize
 }
 
 // Lays the last line.
-fn put_last(out: &mut [u8], at: usize, repaired: u32, breaks: u32) -> usize
-    ensures { λ r. ⌜ r ≡ after (now (out .entry)) at (lastLine repaired breaks) ⌝ }
-    ensures { λ _. ⌜ now (out .exit) ≡ laid (now (out .entry)) at (lastLine repaired breaks) ⌝ }
+fn put_last(out: &mut [u8], at: usize, counts: Counts) -> usize
+    ensures { λ r. ⌜ r ≡ after (now (out .entry)) at (lastLine counts) ⌝ }
+    ensures { λ _. ⌜ now (out .exit) ≡ laid (now (out .entry)) at (lastLine counts) ⌝ }
 {
-    let first = put_told(out, at, b"repaired ", repaired as u64);
-    let second = put_told(out, first, b" breaks ", breaks as u64);
-    text::put_byte(out, second, b'\n')
+    put_pair(
+        out,
+        at,
+        b"repaired ",
+        counts.repaired as u64,
+        b" breaks ",
+        counts.breaks as u64,
+    )
 }
 
 // Lays the one line of a recording that is refused.
@@ -151,41 +201,36 @@ fn put_refused(out: &mut [u8], cause: Cause) -> usize
     ensures { λ r. ⌜ r ≡ after (now (out .entry)) 0 (refusedLine cause) ⌝ }
     ensures { λ _. ⌜ now (out .exit) ≡ laid (now (out .entry)) 0 (refusedLine cause) ⌝ }
 {
-    let refused = put_told(out, 0, b"refused ", refusal(cause));
-    let place = put_told(out, refused, b" at ", place_of(cause));
-    text::put_byte(out, place, b'\n')
+    let number = blocks::refusal_number(cause);
+    let place = place_shown(blocks::tells(cause));
+    put_pair(out, 0, b"refused ", number as u64, b" at ", place)
 }
 
-// The number of a refusal.
-fn refusal(cause: Cause) -> u64
-    ensures { λ r. ⌜ r ≡ refusalOf cause ⌝ }
+// The place that is printed with a refusal.
+fn place_shown(told: Told) -> u64
+    ensures { λ r. ⌜ r ≡ placeShown told ⌝ }
 {
-    match cause {
-        Cause::TooLong => 1,
-        Cause::HeaderCut(_) => 7,
-        Cause::PastEnd(_) => 7,
-        Cause::WrongSize(_) => 7,
-        Cause::UnknownKind(_) => 8,
-        Cause::OutOfTurn(_) => 8,
-        Cause::EndMissing(_) => 8,
-        Cause::WrongCount(_) => 8,
-        Cause::Extra(_) => 8,
+    match told {
+        Told::Nothing => 65536,
+        Told::Place(p) => p as u64,
     }
 }
 
-// The place that is printed with it.
-fn place_of(cause: Cause) -> u64
-    ensures { λ r. ⌜ r ≡ placeOf cause ⌝ }
+// Lays a line of two words, each with its number.
+fn put_pair(out: &mut [u8], at: usize, first: &[u8], m: u64, second: &[u8], n: u64) -> usize
+    ensures { λ r. ⌜ r ≡ after (now (out .entry)) at (pairLine (now (first .entry)) m (now (second .entry)) n) ⌝ }
+    ensures { λ _. ⌜ now (out .exit) ≡ laid (now (out .entry)) at (pairLine (now (first .entry)) m (now (second .entry)) n) ⌝ }
 {
-    match cause {
-        Cause::TooLong => 65536,
-        Cause::HeaderCut(p) => p as u64,
-        Cause::PastEnd(p) => p as u64,
-        Cause::WrongSize(p) => p as u64,
-        Cause::UnknownKind(p) => p as u64,
-        Cause::OutOfTurn(p) => p as u64,
-        Cause::EndMissing(p) => p as u64,
-        Cause::WrongCount(p) => p as u64,
-        Cause::Extra(p) => p as u64,
-    }
+    let one = put_told(out, at, first, m);
+    let two = put_told(out, one, second, n);
+    text::put_byte(out, two, b'\n')
+}
+
+// Lays a word and the number that it tells.
+fn put_told(out: &mut [u8], at: usize, word: &[u8], n: u64) -> usize
+    ensures { λ r. ⌜ r ≡ after (now (out .entry)) at (told (now (word .entry)) n) ⌝ }
+    ensures { λ _. ⌜ now (out .exit) ≡ laid (now (out .entry)) at (told (now (word .entry)) n) ⌝ }
+{
+    let number = text::put_word(out, at, word);
+    text::put_number(out, number, n)
 }

@@ -91,6 +91,7 @@ demand-two =
       state-runs-on = running.state-runs-on;
       nothing-beyond = running.nothing-beyond;
       pass-hears = running.pass-hears;
+      pass-counts = running.pass-counts;
       so-far-alone = running.so-far-alone;
       listing-fits = short.listing-fits;
       listing-stands = listing.listing-stands;

@@ -12,7 +12,7 @@ use Rattle.promises.specs.Rule.{LowestFirst, RefusedExactly, RefusedKeep
 use Rattle.promises.specs.Made.{MadeIsSound, SoundIsMade, NoTwo}
 use Rattle.promises.specs.Parts.{VoiceBlocksStand, NoSuchBlock, FramesAreAll, FramesAreLong, FramesFit, EndCounts}
 use Rattle.promises.specs.Parts.{RepairsCounted, BreaksCounted, RefusedHasNone, EmptyRefused}
-use Rattle.promises.specs.Running.{StateRunsOn, NothingBeyond, PassHears, SoFarAlone}
+use Rattle.promises.specs.Running.{StateRunsOn, NothingBeyond, PassHears, PassCounts, SoFarAlone}
 use Rattle.promises.specs.Worked.{AllTwelve}
 
 -- "Every frame, record or recording, however damaged, gets an answer and the call ends. A frame that isn't eighteen bytes, an index too
@@ -104,6 +104,7 @@ pub record DemandTwo : Type 0 where
   pub state-runs-on : StateRunsOn
   pub nothing-beyond : NothingBeyond
   pub pass-hears : PassHears
+  pub pass-counts : PassCounts
   pub so-far-alone : SoFarAlone
   -- the listing
   pub listing-fits : ListingFits

@@ -23,6 +23,7 @@ use Rattle.blocks.specs.declared.Cause.{Cause}
 use Rattle.blocks.specs.declared.Cause.the-variants.{EndMissing}
 use Rattle.blocks.specs.declared.Ending.{Ending}
 use Rattle.blocks.specs.declared.Ending.the-variants as Ending
+use Rattle.blocks.specs.declared.Walk.{Walk}
 use Rattle.blocks.specs.declared.Walked.{Walked}
 use Rattle.blocks.specs.declared.Found.{Found}
 use Rattle.blocks.specs.declared.Found.the-variants.{At, Nothing}
@@ -58,6 +59,12 @@ module _ (s : List ℕ) (before : State) {w : Walked} (is : w ≡ walkedOf s) {p
   -- and so after its own state
   pub start-own : w .ending ≡ Ending.Sound → p ≡ begunAt (w .walk .voices) before → p ≡ startOf (p .state) s
   start-own ends begun = start-sound ends begun ∙ ap (λ (x : State). startOf x s) (sym (ap (λ (x : Pass). x .state) begun))
+
+-- a pass that begins from the walk of a sound recording
+pub start-walk : (s : List ℕ) {walk : Walk} {before : State} {p : Pass} → walk ≡ walkedOf s .walk → walkedOf s .ending ≡ Ending.Sound
+    → p ≡ begunAt (walk .voices) before → p ≡ startOf (p .state) s
+start-walk s {walk} {before} e ends begun =
+    start-own s before refl ends (begun ∙ ap (λ (x : Walk). begunAt (x .voices) before) e)
 
 -- of `Pass::ahead`: nothing for a pass that was not begun here
 module _ (s : List ℕ) (p : Pass) where
@@ -113,23 +120,25 @@ pub past-frame : (p : Pass) (h : Hearing) (end left : ℕ) {c : Counts} → c �
 past-frame p h end left e =
     λ i. record { at = end; left = left; frames = p .frames + 1; counts = e i; state = h .values .state }
 
--- of `next`
+-- of `Pass::stay`
+pub stayed : (p : Pass) {h : Hearing} → h ≡ noHearing (p .state)
+    → _≡_ {A = Step} (record { hearing = h; pass = p }) (record { hearing = noHearing (p .state); pass = p })
+stayed p e = λ i. record { hearing = e i; pass = p }
+
+-- of `Pass::hear`
 module _ (s : List ℕ) (p : Pass) where
-  next-by : (f : Found) → aheadOf s p ≡ f → stepBy s p f ≡ nextOf s p
-  unfolding nextOf
-  next-by f e = ap (stepBy s p) (sym e)
-
-  pub next-nothing : {h : Hearing} → h ≡ noHearing (p .state) → aheadOf s p ≡ Nothing → record { hearing = h; pass = p } ≡ nextOf s p
-  next-nothing e n = (λ i. record { hearing = e i; pass = p }) ∙ next-by Nothing n
-
-  pub next-heard : (first rest : ℕ) {h : Hearing} {q : Pass} → aheadOf s p ≡ At first rest
-      → h ≡ hearingOf (p .state) (part s first (first + 18 - first)) → q ≡ pastFrame p h (first + 18) rest
-      → record { hearing = h; pass = q } ≡ nextOf s p
-  next-heard first rest {h} {q} n e is =
+  pub went-past : (first rest : ℕ) {h : Hearing} {q : Pass} → h ≡ hearingOf (p .state) (part s first (first + 18 - first))
+      → q ≡ pastFrame p h (first + 18) rest → record { hearing = h; pass = q } ≡ stepBy s p (At first rest)
+  went-past first rest {h} {q} e is =
       let m : first + 18 - first ≡ 18 = omega arith in
       let l : h ≡ hearingOf (p .state) (part s first 18) = e ∙ ap (λ (k : ℕ). hearingOf (p .state) (part s first k)) m in
       (λ i. record { hearing = h; pass = is i })
-      ∙ ap (λ (x : Hearing). record { hearing = x; pass = pastFrame p x (first + 18) rest }) l ∙ next-by (At first rest) n
+      ∙ ap (λ (x : Hearing). record { hearing = x; pass = pastFrame p x (first + 18) rest }) l
+
+  -- of `next`
+  pub next-by : {f g : Found} → f ≡ aheadOf s p → f ≡ g → stepBy s p g ≡ nextOf s p
+  unfolding nextOf
+  next-by e is = ap (stepBy s p) (sym is ∙ e)
 
 -- ---- how many frames there are
 
@@ -148,15 +157,21 @@ frames-few s (suc n) at left h = go (foundAt s at left) refl (frames-few s n)
         rw (frames-more s at left first rest e) (omega (arith, w .on, w .fits))
     go Nothing e more = rw (frames-none s at left e) (omega arith)
 
+pub frames-fit : (s : List ℕ) → 18 * length (framesOf s) ≤ length s
+frames-fit s = go (walkedOf s .ending) refl
+  where
+    go : (e : Ending) → walkedOf s .ending ≡ e → 18 * length (framesOf s) ≤ length s
+    go Ending.Sound e =
+        let few = frames-few s (suc (length s)) (walkedOf s .walk .voices) 0 (omega arith) in
+        rw (frames-sound s e) (omega arith)
+    go (Ending.Refused cause) e = rw (frames-refused s cause e) (omega arith)
+
 -- so a recording has at most 3,640
 pub frames-most : (s : List ℕ) → length (framesOf s) ≤ 3640
 frames-most s = go (walkedOf s .ending) refl
   where
     go : (e : Ending) → walkedOf s .ending ≡ e → length (framesOf s) ≤ 3640
-    go Ending.Sound e =
-        let short = sound-short s e in
-        let few = frames-few s (suc (length s)) (walkedOf s .walk .voices) 0 (omega arith) in
-        rw (frames-sound s e) (omega arith)
+    go Ending.Sound e = let short = sound-short s e in let fit = frames-fit s in omega arith
     go (Ending.Refused cause) e = rw (frames-refused s cause e) (omega arith)
 
 -- ---- the law

@@ -4,6 +4,7 @@ use mathlib.Core.Path.{_≡_, _∙_, sym, refl, ap, subst}
 use mathlib.Core.List.{List}
 use Prim.Native.Nat.{ℕ, zero, suc, _+_, _-_, _<_, _≤_}
 use native.Mathlib.Omega.{arith}
+use native.Mathlib.Nat.{add-zero, add-suc}
 use native.Mathlib.Decide.{decLt}
 use lib.ListN.{length, take}
 use Rattle.values.specs.declared.State.{State}
@@ -12,17 +13,19 @@ use Rattle.blocks.specs.Frames.{framesOf}
 use Rattle.blocks.specs.declared.Cause.{Cause}
 use Rattle.blocks.specs.declared.Ending.{Ending}
 use Rattle.blocks.specs.declared.Ending.the-variants as Ending
+use Rattle.blocks.specs.declared.Walk.{Walk}
 use Rattle.blocks.specs.declared.Walked.{Walked}
 use Rattle.recording.specs.Counted.{countsTo, countsOf}
 use Rattle.recording.specs.Judged.{summaryOf, judgedBy, judgedOf}
 use Rattle.recording.specs.Pass.{noHearing, stateThrough, frameHeard, startOf, nextOf, passAt}
 use Rattle.recording.specs.declared.Counts.{Counts}
+use Rattle.recording.specs.declared.Summary.{Summary}
 use Rattle.recording.specs.declared.Judged.the-variants.{Sound, Refused}
 use Rattle.recording.specs.declared.Hearing.{Hearing}
 use Rattle.recording.specs.declared.Pass.{Pass}
 use Rattle.recording.specs.declared.Step.{Step}
 use Rattle.recording.proofs.Hearings.{heard-there, heard-beyond, heard-before-first}
-use Rattle.recording.proofs.Passes.{Passing, passing-start, Stepping, past, ended, passing-next}
+use Rattle.recording.proofs.Passes.{frames-fit, Passing, passing-start, Stepping, past, ended, passing-next}
 
 -- ---- one turn of any loop: a step of a pass, and whether it passed a frame
 
@@ -31,11 +34,6 @@ pub record Further (before : State) (s : List ℕ) (p : Pass) (t : Step) : Type 
   pub more : p .frames < length (framesOf s)
   pub passing : Passing before s (t .pass)
   pub one : t .pass .frames ≡ suc (p .frames)
-
--- and where it did not: all were passed
-pub record Ended (before : State) (s : List ℕ) (p : Pass) (t : Step) : Type 0 where
-  pub all : p .frames ≡ length (framesOf s)
-  pub same : t .pass ≡ p
 
 module _ {before : State} {s : List ℕ} {p : Pass} (q : Passing before s p) {t : Step} (is : t ≡ nextOf s p) where
   stepping : Stepping before s p t
@@ -56,84 +54,37 @@ module _ {before : State} {s : List ℕ} {p : Pass} (q : Passing before s p) {t 
       go (past l h n o) = record { more = l; passing = n; one = o }
       go (ended e h n) = absurd (w (ap (λ (x : Pass). x .frames) n))
 
-  pub step-ended : t .pass .frames ≡ p .frames → Ended before s p t
+  -- and where it did not, all were passed
+  pub step-ended : t .pass .frames ≡ p .frames → p .frames ≡ length (framesOf s)
   step-ended w = go stepping
     where
-      go : Stepping before s p t → Ended before s p t
+      go : Stepping before s p t → p .frames ≡ length (framesOf s)
       go (past l h n o) = absurd (omega arith)
-      go (ended e h n) = record { all = e; same = n }
+      go (ended e h n) = e
+
+  -- and it stays
+  pub step-same : t .pass .frames ≡ p .frames → t .pass ≡ p
+  step-same w = go stepping
+    where
+      go : Stepping before s p t → t .pass ≡ p
+      go (past l h n o) = absurd (omega arith)
+      go (ended e h n) = n
 
   -- then all are counted
-  pub all-counted : t .pass .frames ≡ p .frames → t .pass .counts ≡ countsOf (framesOf s)
-  all-counted w =
-      let e = step-ended w in
-      ap (λ (x : Pass). x .counts) (e .same) ∙ q .counts ∙ ap (countsTo (framesOf s)) (e .all)
+  pub all-counted : t .pass .frames ≡ p .frames → p .counts ≡ countsOf (framesOf s)
+  all-counted w = q .counts ∙ ap (countsTo (framesOf s)) (step-ended w)
 
 -- a pass that was started is on its way
 pub on-its-way : (before : State) (s : List ℕ) {p : Pass} → p ≡ startOf before s → Passing before s p
 on-its-way before s is = subst (Passing before s) (sym is) (passing-start before s)
 
--- ---- the loop of `frame_heard`
-
--- the frame asked for is still to come
-pub record Seeking (before : State) (s : List ℕ) (k : ℕ) (p : Pass) : Type 0 where
-  pub passing : Passing before s p
-  pub ahead : p .frames < k
-
 pub none-passed : (before : State) (s : List ℕ) → startOf before s .frames ≡ 0
 unfolding startOf
 none-passed before s = refl
 
-module _ (before : State) (s : List ℕ) (k : ℕ) {state : State} (same : state ≡ before) where
-  pub seeking-start : {p : Pass} → (k ≡ 0 → ⊥) → p ≡ startOf state s → Seeking before s k p
-  seeking-start z started =
-      let is = started ∙ ap (λ (x : State). startOf x s) same in
-      let n = ap (λ (x : Pass). x .frames) is ∙ none-passed before s in
-      record { passing = on-its-way before s is; ahead = omega arith }
-
-  -- there is no frame 0
-  pub sought-none : {h : Hearing} → k ≡ 0 → h ≡ noHearing state → h ≡ frameHeard before (framesOf s) k
-  sought-none z e =
-      e ∙ ap noHearing same ∙ sym (heard-before-first before (framesOf s)) ∙ ap (frameHeard before (framesOf s)) (sym z)
-
-module _ {before : State} {s : List ℕ} {k : ℕ} {p : Pass} (q : Seeking before s k p) {t : Step} (is : t ≡ nextOf s p) where
-  -- it was just passed
-  pub sought-found : t .pass .frames ≡ k → t .hearing ≡ frameHeard before (framesOf s) k
-  sought-found e =
-      let f = step-further (q .passing) is (λ w. omega (arith, q .ahead)) in
-      let n : suc (p .frames) ≡ k = omega (arith, f .one) in
-      step-hears (q .passing) is ∙ ap (frameHeard before (framesOf s)) n
-
-  -- there are not so many
-  pub sought-beyond : t .pass .frames ≡ p .frames → t .hearing ≡ frameHeard before (framesOf s) k
-  sought-beyond w =
-      let e = step-ended (q .passing) is w .all in
-      let n : suc (k - 1) ≡ k = omega (arith, q .ahead) in
-      step-hears (q .passing) is ∙ heard-beyond before (framesOf s) (p .frames) (omega arith)
-      ∙ sym (heard-beyond before (framesOf s) (k - 1) (omega (arith, q .ahead))) ∙ ap (frameHeard before (framesOf s)) n
-
-  -- or it is still to come
-  pub seeking-on : (t .pass .frames ≡ k → ⊥) → (t .pass .frames ≡ p .frames → ⊥) → Seeking before s k (t .pass)
-  seeking-on z w =
-      let f = step-further (q .passing) is w in
-      record { passing = f .passing; ahead = omega (arith, f .one, q .ahead) }
-
--- ---- the returns of `judge`
-
-module _ (s : List ℕ) {w : Walked} (is : w ≡ walkedOf s) where
-  judged : (e : Ending) → w .ending ≡ e → {c : Counts} → c ≡ countsOf (framesOf s) → judgedBy e (summaryOf (w .walk) c) ≡ judgedOf s
-  unfolding judgedOf
-  judged e ends {c} counted =
-      ap (λ (x : Ending). judgedBy x (summaryOf (w .walk) c)) (sym ends)
-      ∙ ap (λ (x : Counts). judgedBy (w .ending) (summaryOf (w .walk) x)) counted
-      ∙ ap (λ (x : Walked). judgedBy (x .ending) (summaryOf (x .walk) (countsOf (framesOf s)))) is
-
-  pub judge-refused : {cause : Cause} → w .ending ≡ Ending.Refused cause → Refused cause ≡ judgedOf s
-  judge-refused {cause} ends = judged (Ending.Refused cause) ends refl
-
-  pub judge-sound : w .ending ≡ Ending.Sound → {c : Counts} → c ≡ countsOf (framesOf s)
-      → Sound (summaryOf (w .walk) c) ≡ judgedOf s
-  judge-sound ends counted = judged Ending.Sound ends counted
+start-state : (before : State) (s : List ℕ) → startOf before s .state ≡ before
+unfolding startOf
+start-state before s = refl
 
 -- ---- the pass after k steps
 
@@ -164,6 +115,24 @@ pass-after before s zero =
     record { passing = passing-start before s; some = λ m. none-passed before s; all = λ m. omega (arith, none-passed before s) }
 pass-after before s (suc k) = after-next before s k (passAt before s k) (pass-after before s k)
 
+-- one step more
+pass-on : (before : State) (s : List ℕ) (k : ℕ) → nextOf s (passAt before s k) .pass ≡ passAt before s (suc k)
+unfolding passAt
+pass-on before s k = refl
+
+-- where a step passes no frame, the pass stays where it is, however many steps follow
+pass-stays : (before : State) (s : List ℕ) (k : ℕ) → nextOf s (passAt before s k) .pass .frames ≡ passAt before s k .frames
+    → (n : ℕ) → passAt before s k ≡ passAt before s (k + n)
+pass-stays before s k e = go
+  where
+    same : nextOf s (passAt before s k) .pass ≡ passAt before s k
+    same = step-same (pass-after before s k .passing) refl e
+
+    go : (n : ℕ) → passAt before s k ≡ passAt before s (k + n)
+    go zero = ap (passAt before s) (sym (add-zero k))
+    go (suc n) =
+        sym same ∙ ap (λ (p : Pass). nextOf s p .pass) (go n) ∙ pass-on before s (k + n) ∙ ap (passAt before s) (sym (add-suc k n))
+
 module _ (before : State) (s : List ℕ) (k : ℕ) where
   -- the step after k steps hears frame k + 1
   pub pass-hears : nextOf s (passAt before s k) .hearing ≡ frameHeard before (framesOf s) (suc k)
@@ -189,3 +158,94 @@ module _ (before : State) (s : List ℕ) (k : ℕ) where
     pass-state =
         let a = pass-after before s k in
         a .passing .state ∙ ap (λ (n : ℕ). stateThrough before (take n (framesOf s))) (a .some h)
+
+  -- after as many steps as there are bytes all frames are counted
+  pub pass-all : length (framesOf s) ≤ k → passAt before s k .counts ≡ countsOf (framesOf s)
+  pass-all h = let a = pass-after before s k in a .passing .counts ∙ ap (countsTo (framesOf s)) (a .all h)
+
+-- ---- the loop of `pass_after`
+
+-- with so many steps ahead, the pass is the one after the others
+pub record Going (before : State) (s : List ℕ) (k : ℕ) (p : Pass) (ahead : ℕ) : Type 0 where
+  pub here : p ≡ passAt before s (k - ahead)
+  pub upto : ahead ≤ k
+
+pub going-start : (before : State) (s : List ℕ) (k : ℕ) {p : Pass} → p ≡ startOf before s → Going before s k p k
+unfolding passAt
+going-start before s k is =
+    let z : k - k ≡ 0 = omega arith in
+    record { here = is ∙ ap (passAt before s) (sym z); upto = omega arith }
+
+module _ {before : State} {s : List ℕ} {k ahead : ℕ} {p : Pass} (g : Going before s k p ahead) where
+  pub going-on : {t : Step} → t ≡ nextOf s p → 0 < ahead → Going before s k (t .pass) (ahead - 1)
+  going-on is h =
+      let n : suc (k - ahead) ≡ k - (ahead - 1) = omega (arith, g .upto) in
+      record {
+        here =
+            ap (λ (t : Step). t .pass) is ∙ ap (λ (x : Pass). nextOf s x .pass) (g .here) ∙ pass-on before s (k - ahead)
+            ∙ ap (passAt before s) n;
+        upto = omega (arith, g .upto);
+      }
+
+  -- a step that passes no frame shows that it is at the end
+  pub going-stays : {t : Step} → t ≡ nextOf s p → t .pass .frames ≡ p .frames → p ≡ passAt before s k
+  going-stays is e =
+      let n : k - ahead + ahead ≡ k = omega (arith, g .upto) in
+      g .here ∙ pass-stays before s (k - ahead) (stays (k - ahead) (g .here)) ahead ∙ ap (passAt before s) n
+    where
+      stays : (j : ℕ) → p ≡ passAt before s j → nextOf s (passAt before s j) .pass .frames ≡ passAt before s j .frames
+      stays j q = rw (sym q) (rw (sym is) e)
+
+  pub going-done : ahead ≤ 0 → p ≡ passAt before s k
+  going-done h = let n : k - ahead ≡ k = omega arith in g .here ∙ ap (passAt before s) n
+
+-- ---- the returns of `frame_heard`
+
+-- a pass that was started was started after its own state
+pub started-own : (s : List ℕ) (fresh : State) {p : Pass} → p ≡ startOf fresh s → p ≡ startOf (p .state) s
+started-own s fresh is =
+    is ∙ ap (λ (x : State). startOf x s) (sym (ap (λ (x : Pass). x .state) is ∙ start-state fresh s))
+
+module _ (s : List ℕ) (k : ℕ) {fresh before : State} (same : fresh ≡ before) where
+  -- there is no frame 0
+  pub sought-none : {h : Hearing} → k ≡ 0 → h ≡ noHearing fresh → h ≡ frameHeard before (framesOf s) k
+  sought-none z e =
+      e ∙ ap noHearing same ∙ sym (heard-before-first before (framesOf s)) ∙ ap (frameHeard before (framesOf s)) (sym z)
+
+  -- the step of the pass after the frames before it hears frame k
+  pub sought : {p q : Pass} {t : Step} → (k ≡ 0 → ⊥) → p ≡ startOf fresh s → q ≡ passAt (p .state) s (k - 1) → t ≡ nextOf s q
+      → t .hearing ≡ frameHeard before (framesOf s) k
+  sought {p} z is here next =
+      let n : suc (k - 1) ≡ k = omega arith in
+      ap (λ (x : Step). x .hearing) (next ∙ ap (nextOf s) here) ∙ pass-hears (p .state) s (k - 1)
+      ∙ ap (λ (x : State). frameHeard x (framesOf s) (suc (k - 1))) (ap (λ (x : Pass). x .state) is ∙ started-state ∙ same)
+      ∙ ap (frameHeard before (framesOf s)) n
+    where
+      started-state : startOf fresh s .state ≡ fresh
+      started-state = start-state fresh s
+
+-- ---- the return of `summarize`, and those of `judge`
+
+pub all-summed : (s : List ℕ) (w : Walk) (before : State) {q : Pass} → q ≡ passAt before s (length s)
+    → summaryOf w (q .counts) ≡ summaryOf w (countsOf (framesOf s))
+all-summed s w before is =
+    ap (summaryOf w)
+    (ap (λ (x : Pass). x .counts) is ∙ pass-all before s (length s) (let f = frames-fit s in omega arith))
+
+module _ (s : List ℕ) {w : Walked} (is : w ≡ walkedOf s) where
+  judged : (e : Ending) → w .ending ≡ e → {c : Counts} → c ≡ countsOf (framesOf s) → judgedBy e (summaryOf (w .walk) c) ≡ judgedOf s
+  unfolding judgedOf
+  judged e ends {c} counted =
+      ap (λ (x : Ending). judgedBy x (summaryOf (w .walk) c)) (sym ends)
+      ∙ ap (λ (x : Counts). judgedBy (w .ending) (summaryOf (w .walk) x)) counted
+      ∙ ap (λ (x : Walked). judgedBy (x .ending) (summaryOf (x .walk) (countsOf (framesOf s)))) is
+
+  pub judge-refused : {cause : Cause} → w .ending ≡ Ending.Refused cause → Refused cause ≡ judgedOf s
+  judge-refused {cause} ends = judged (Ending.Refused cause) ends refl
+
+  pub judge-sound : w .ending ≡ Ending.Sound → {x : Summary} → x ≡ summaryOf (w .walk) (countsOf (framesOf s)) → Sound x ≡ judgedOf s
+  judge-sound ends counted = ap Sound counted ∙ judged Ending.Sound ends refl
+
+  -- what `summarize` requires
+  pub sound-walk : w .ending ≡ Ending.Sound → (w .walk ≡ walkedOf s .walk) × (walkedOf s .ending ≡ Ending.Sound)
+  sound-walk ends = (ap (λ (x : Walked). x .walk) is, sym (ap (λ (x : Walked). x .ending) is) ∙ ends)

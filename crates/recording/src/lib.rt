@@ -11,11 +11,13 @@ use values::Values;
 ghost use mathlib.Core.Path.{_≡_};
 ghost use Prim.Native.Nat.{_≤_};
 ghost use Rattle.values.specs.Values.{freshState};
-ghost use Rattle.blocks.specs.Walk.{longest};
+ghost use Rattle.blocks.specs.Walk.{longest, walkedOf};
 ghost use Rattle.blocks.specs.Frames.{framesOf};
 ghost use Rattle.recording.specs.Counted.{repairBy, breakBy, counting, countsOf};
-ghost use Rattle.recording.specs.Judged.{judgedOf};
-ghost use Rattle.recording.specs.Pass.{hearingOf, noHearing, frameHeard, begunAt, startOf, aheadOf, pastFrame, nextOf};
+ghost use Rattle.recording.specs.Judged.{summaryOf, judgedOf};
+ghost use Rattle.recording.specs.Pass.{hearingOf, noHearing, frameHeard, begunAt, startOf, aheadOf, pastFrame, stepBy, nextOf, passAt};
+ghost use Rattle.blocks.specs.declared.Ending.the-variants.{Sound};
+ghost use Rattle.blocks.specs.declared.Found.the-variants.{At, Nothing};
 
 // Repaired frames and sync breaks.
 pub struct Counts {
@@ -62,37 +64,46 @@ pub fn judge(s: &[u8]) -> Judged
     ensures { λ r. ⌜ r ≡ judgedOf (now (s .entry)) ⌝ }
 {
     let walked = blocks::walk_through(s);
-    let walk = walked.walk;
     let ending = walked.ending;
     match ending {
         Ending::Refused(cause) => Judged::Refused(cause),
-        Ending::Sound => {
-            let counts = count_frames(s, begin(walk, State::fresh()));
-            let heading = walk.heading;
-            let frames = walk.frames;
-            Judged::Sound(Summary {
-                heading,
-                frames,
-                counts,
-            })
-        }
+        Ending::Sound => Judged::Sound(summarize(s, walked.walk)),
     }
 }
 
-// The counts of all frames, by a pass before the first.
-fn count_frames(s: &[u8], start: Pass) -> Counts
+// A sound recording whose blocks were walked, told in numbers.
+fn summarize(s: &[u8], walk: Walk) -> Summary
+    requires { ⌜ walk ≡ walkedOf (now s) .walk ⌝ }
+    requires { ⌜ walkedOf (now s) .ending ≡ Sound ⌝ }
+    ensures { λ r. ⌜ r ≡ summaryOf walk (countsOf (framesOf (now (s .entry)))) ⌝ }
+{
+    let end = pass_after(s, s.len(), begin(walk, State::fresh()));
+    let counts = end.counts;
+    let heading = walk.heading;
+    let frames = walk.frames;
+    Summary {
+        heading,
+        frames,
+        counts,
+    }
+}
+
+// The pass k frames after the start; where there are not so many, the one at the end.
+fn pass_after(s: &[u8], k: usize, start: Pass) -> Pass
     requires { ⌜ start ≡ startOf (start .state) (now s) ⌝ }
-    ensures { λ r. ⌜ r ≡ countsOf (framesOf (now (s .entry))) ⌝ }
+    ensures { λ r. ⌜ r ≡ passAt (start .state) (now (s .entry)) k ⌝ }
 {
     let mut pass = start;
-    loop {
+    let mut ahead = k;
+    while 0 < ahead {
         let step = next(s, pass);
-        let after = step.pass;
-        if after.frames == pass.frames {
-            return after.counts;
+        if step.pass.frames == pass.frames {
+            return pass;
         }
-        pass = after;
+        pass = step.pass;
+        ahead -= 1;
     }
+    pass
 }
 
 // A pass before the first frame of a recording, after a state; one at its end where the recording is refused.
@@ -100,10 +111,9 @@ pub fn start(s: &[u8], state: State) -> Pass
     ensures { λ r. ⌜ r ≡ startOf state (now (s .entry)) ⌝ }
 {
     let walked = blocks::walk_through(s);
-    let walk = walked.walk;
     let ending = walked.ending;
     match ending {
-        Ending::Sound => begin(walk, state),
+        Ending::Sound => begin(walked.walk, state),
         Ending::Refused(_) => Pass::begun(s.len(), state),
     }
 }
@@ -119,21 +129,9 @@ pub fn begin(walk: Walk, state: State) -> Pass
 pub fn next(s: &[u8], pass: Pass) -> Step
     ensures { λ r. ⌜ r ≡ nextOf (now (s .entry)) pass ⌝ }
 {
-    let state = pass.state;
     match pass.ahead(s) {
-        Found::Nothing => {
-            let hearing = Hearing::nothing(s, state);
-            Step { hearing, pass }
-        }
-        Found::At(first, rest) => {
-            let end = first + 18;
-            let hearing = Hearing::of(&s[first..end], state);
-            let after = pass.past(hearing, end, rest);
-            Step {
-                hearing,
-                pass: after,
-            }
-        }
+        Found::Nothing => pass.stay(s),
+        Found::At(first, rest) => pass.hear(s, first, rest),
     }
 }
 
@@ -145,19 +143,9 @@ pub fn frame_heard(s: &[u8], k: usize) -> Hearing
     if k == 0 {
         return Hearing::nothing(s, fresh);
     }
-    let mut pass = start(s, fresh);
-    loop {
-        let step = next(s, pass);
-        let after = step.pass;
-        let passed = after.frames as usize;
-        if passed == k {
-            return step.hearing;
-        }
-        if after.frames == pass.frames {
-            return step.hearing;
-        }
-        pass = after;
-    }
+    let before = k - 1;
+    let step = next(s, pass_after(s, before, start(s, fresh)));
+    step.hearing
 }
 
 impl Hearing {
@@ -212,6 +200,28 @@ impl Pass {
             return Found::Nothing;
         }
         blocks::find(s, self.at, self.left)
+    }
+
+    // At the end nothing is heard, and the pass stays where it is.
+    fn stay(self, s: &[u8]) -> Step
+        ensures { λ r. ⌜ r ≡ stepBy (now (s .entry)) self Nothing ⌝ }
+    {
+        let hearing = Hearing::nothing(s, self.state);
+        Step {
+            hearing,
+            pass: self,
+        }
+    }
+
+    // The frame at a place is heard, and the pass goes past it; `rest` bytes of its voice block come after it.
+    fn hear(self, s: &[u8], first: usize, rest: usize) -> Step
+        requires { ⌜ aheadOf (now s) self ≡ At first rest ⌝ }
+        ensures { λ r. ⌜ r ≡ stepBy (now (s .entry)) self (At first rest) ⌝ }
+    {
+        let end = first + 18;
+        let hearing = Hearing::of(&s[first..end], self.state);
+        let pass = self.past(hearing, end, rest);
+        Step { hearing, pass }
     }
 
     // The pass after a frame that was heard, at the place after it.

@@ -6,6 +6,8 @@ use borrow.Fn.Kinds.{Dens, resT, endedOf}
 use mathlib.Core.Path.{_≡_, _∙_, sym}
 use Rattle.values.proofs.State.fresh.Kinds as fresh
 use Rattle.values.proofs.State.fresh.Reads as fresh-reads
+use Rattle.values.proofs.Outcome.refusal_number.Kinds as refusal-number
+use Rattle.values.proofs.Outcome.refusal_number.Reads as refusal-number-reads
 use Rattle.values.proofs.Values.nothing.Kinds as nothing
 use Rattle.values.proofs.Values.nothing.Reads as nothing-reads
 use Rattle.values.proofs.values_of.Kinds as values-of
@@ -22,3 +24,8 @@ nothing-determined κs a r₁ r₂ x₁ x₂ p q = p ∙ sym q
 pub values-of-determined : (κs : Lfts 0) (a : Dens κs values-of.ps) (r₁ r₂ : resT values-of.r κs .Denot)
     (x₁ x₂ : AtExit (endedOf 0 values-of.ps values-of.r) κs) → values-of-reads.Post κs a r₁ x₁ → values-of-reads.Post κs a r₂ x₂ → r₁ ≡ r₂
 values-of-determined κs a r₁ r₂ x₁ x₂ p q = p ∙ sym q
+
+pub refusal-number-determined : (κs : Lfts 0) (a : Dens κs refusal-number.ps) (r₁ r₂ : resT refusal-number.r κs .Denot)
+    (x₁ x₂ : AtExit (endedOf 0 refusal-number.ps refusal-number.r) κs)
+    → refusal-number-reads.Post κs a r₁ x₁ → refusal-number-reads.Post κs a r₂ x₂ → r₁ ≡ r₂
+refusal-number-determined κs a r₁ r₂ x₁ x₂ p q = p ∙ sym q

@@ -6,6 +6,7 @@ use record::Record;
 ghost use mathlib.Core.Path.{_≡_};
 ghost use Prim.Native.Nat.{_<_};
 ghost use Rattle.gains.specs.Gains.{gainOf};
+ghost use Rattle.values.specs.Outcome.{refusalOf};
 ghost use Rattle.values.specs.Values.{valueIn, indicesAt, gainsOf, delaysOf, freshState, stateAfter, previousOf};
 ghost use Rattle.values.specs.Values.{heardValues, refusedValues, nothingHeard, valuesOf};
 
@@ -51,6 +52,20 @@ pub enum Outcome {
     TooLarge(usize),
     Expansion,
     Nothing,
+}
+
+impl Outcome {
+    // The number of the refusal; 0 where there is none.
+    pub fn refusal_number(self) -> u32
+        ensures { λ n. ⌜ n ≡ refusalOf self ⌝ }
+    {
+        match self {
+            Outcome::Heard => 0,
+            Outcome::TooLarge(_) => 2,
+            Outcome::Expansion => 6,
+            Outcome::Nothing => 0,
+        }
+    }
 }
 
 // What a record says, subframe 1 first; PG in thousandths, delays in twelfths of a sample, averages in eighths of a Hz.
