@@ -31,12 +31,17 @@ pub frames-in-none : length (framesIn []) ≡ 0
 unfolding framesIn
 frames-in-none = refl
 
-pub frames-in-more : (p : List ℕ) (ps : List (List ℕ)) → length (framesIn (p ∷ ps)) ≡ length p / 18 + length (framesIn ps)
+-- one payload more in front
+pub frames-in-more : (p : List ℕ) (ps : List (List ℕ))
+    → length (framesIn (p ∷ ps)) ≡ length p / 18 + length (framesIn ps)
 unfolding framesIn
 frames-in-more p ps =
-    length-append (eighteens p) (framesIn ps) ∙ ap (λ (n : ℕ). n + length (framesIn ps)) (length-cut (length p / 18) p)
+    length-append (eighteens p) (framesIn ps) ∙ ap (λ (n : ℕ). n + length (framesIn ps))
+    (length-cut (length p / 18) p)
 
-pub frames-in-last : (ps : List (List ℕ)) (p : List ℕ) → length (framesIn (ps ++ (p ∷ []))) ≡ length (framesIn ps) + length p / 18
+-- and one more behind
+pub frames-in-last : (ps : List (List ℕ)) (p : List ℕ)
+    → length (framesIn (ps ++ (p ∷ []))) ≡ length (framesIn ps) + length p / 18
 frames-in-last [] p = let a = frames-in-more p [] in let b = frames-in-none in omega (arith, a, b)
 frames-in-last (q ∷ ps) p =
     let r = frames-in-last ps p in
@@ -49,11 +54,15 @@ pub blocks-none : length (voiceBlocks []) ≡ 0
 unfolding voiceBlocks
 blocks-none = refl
 
-pub blocks-more : (p : List ℕ) (ps : List (List ℕ)) → length (voiceBlocks (p ∷ ps)) ≡ 6 + length p + length (voiceBlocks ps)
+-- one more in front
+pub blocks-more : (p : List ℕ) (ps : List (List ℕ)) → length (voiceBlocks (p ∷ ps))
+    ≡ 6 + length p + length (voiceBlocks ps)
 unfolding voiceBlocks
 blocks-more p ps = let n = length-append (block 2 p) (voiceBlocks ps) in omega (arith, n)
 
-blocks-last : (ps : List (List ℕ)) (p : List ℕ) → length (voiceBlocks (ps ++ (p ∷ []))) ≡ length (voiceBlocks ps) + 6 + length p
+-- and one more behind
+blocks-last : (ps : List (List ℕ)) (p : List ℕ) → length (voiceBlocks (ps ++ (p ∷ [])))
+    ≡ length (voiceBlocks ps) + 6 + length p
 blocks-last [] p = let a = blocks-more p [] in let b = blocks-none in omega (arith, a, b)
 blocks-last (q ∷ ps) p =
     let r = blocks-last ps p in
@@ -75,6 +84,7 @@ pub data Way (s : List ℕ) : Walk → Type 0 where
   before-head : Way s atStart
   behind-head : (w : Walk) (ps : List (List ℕ)) → Behind s w ps → Way s w
 
+-- it stays so at each step
 way-on : (s : List ℕ) (w next : Walk) → Way s w → stepOf s w ≡ On next → Way s next
 way-on s _ next before-head o =
     step-on s atStart next (Way s)
@@ -94,7 +104,8 @@ way-on s w next (behind-head _ ps b) o =
     (λ h e t. absurd (let u : true ≡ false = sym (b .headed) ∙ t in let z : _≡_ {A = ℕ} 0 1 = cc in omega arith))
     (λ size e t. behind-head (pastVoice w size) (ps ++ (part s (w .at + 6) size ∷ [])) (further size e)) o
   where
-    further : (size : ℕ) → blockAt s (w .at) ≡ Voice size → Behind s (pastVoice w size) (ps ++ (part s (w .at + 6) size ∷ []))
+    further : (size : ℕ) → blockAt s (w .at) ≡ Voice size
+        → Behind s (pastVoice w size) (ps ++ (part s (w .at + 6) size ∷ []))
     further size e =
         let v = voice-held s (w .at) size e in
         let k : length (part s (w .at + 6) size) ≡ size
@@ -124,6 +135,7 @@ pub record Whole (s : List ℕ) : Type 0 where
   pub ended : Ended s (walkedOf s .walk)
   pub voices : payloadsOf s ≡ voicesFrom s (afterHead 0)
 
+-- so it is of every sound recording
 pub sound-whole : (s : List ℕ) → walkedOf s .ending ≡ Sound → Whole s
 sound-whole s e = go (walkedOf s .walk) refl (way s)
   where
@@ -134,8 +146,11 @@ sound-whole s e = go (walkedOf s .walk) refl (way s)
     go w i before-head = absurd (let n = end .some in let z = ap (λ (x : Walk). x .frames) i in omega (arith, n, z))
     go w i (behind-head _ ps b) =
         let c : Behind s (walkedOf s .walk) ps = subst (λ (x : Walk). Behind s x ps) (sym i) b in
-        let none = voices-none s (walkedOf s .walk .at) 0 (end-no-voice s (walkedOf s .walk .at) (walkedOf s .walk .frames) (end .block)) refl in
-        let all : voicesFrom s (afterHead 0) ≡ ps = c .passed ∙ ap (λ (x : List (List ℕ)). ps ++ x) none ∙ append-nil ps in
+        let none =
+        voices-none s (walkedOf s .walk .at) 0 (end-no-voice s (walkedOf s .walk .at) (walkedOf s .walk .frames)
+        (end .block)) refl in
+        let all : voicesFrom s (afterHead 0) ≡ ps = c .passed ∙ ap (λ (x : List (List ℕ)). ps ++ x) none
+        ∙ append-nil ps in
         let paid : payloadsOf s ≡ voicesFrom s (afterHead 0) = payloads-sound s e ∙ ap (voicesFrom s) (c .voices) in
         record {
           behind = subst (Behind s (walkedOf s .walk)) (sym (paid ∙ all)) c;

@@ -12,7 +12,8 @@ use Rattle.laws.specs.Unless.{unless}
 use Rattle.laws.proofs.Turns.{turns-once}
 use Rattle.laws.proofs.Chosen.{chosen}
 use Rattle.blocks.specs.Blocks.{blockAt}
-use Rattle.blocks.specs.Walk.{longest, refuse, pastHead, pastVoice, atHead, atVoice, endingAt, met, stepOf, atStart}
+use Rattle.blocks.specs.Walk.{longest, refuse, pastHead, pastVoice, atHead, atVoice, endingAt, met}
+use Rattle.blocks.specs.Walk.{stepOf, atStart}
 use Rattle.blocks.specs.Walk.{stopped, onward, walkFrom, walkedOf}
 use Rattle.blocks.specs.declared.Cause.{Cause}
 use Rattle.blocks.specs.declared.Cause.the-variants.{TooLong, OutOfTurn, EndMissing, WrongCount, Extra}
@@ -31,26 +32,34 @@ use Rattle.blocks.proofs.Blocks.{head-held, voice-held}
 pub second-head : (w : Walk) (h : Heading) → w .headed ≡ true → refuse (OutOfTurn (w .at)) ≡ atHead w h
 second-head w h t = rw t
 
+-- the first is passed
 pub first-head : (w : Walk) (h : Heading) → w .headed ≡ false → On (pastHead w h) ≡ atHead w h
 first-head w h t = rw t
 
+-- a voice block before the head is out of turn
 pub voice-first : (w : Walk) (size : ℕ) → w .headed ≡ false → refuse (OutOfTurn (w .at)) ≡ atVoice w size
 voice-first w size t = rw t
 
+-- one after it is passed
 pub voice-passed : (w : Walk) (size : ℕ) → w .headed ≡ true → On (pastVoice w size) ≡ atVoice w size
 voice-passed w size t = sym (ap (λ (b : Bool). unless b (refuse (OutOfTurn (w .at))) (On (pastVoice w size))) t)
 
 module _ (long at frames told : ℕ) where
+  -- an end before any frame is out of turn
   pub end-early : frames ≡ 0 → Refused (OutOfTurn at) ≡ endingAt long at frames told
   end-early z = rw (le-ltb 0 frames (omega arith))
 
   module _ (some : frames ≡ 0 → ⊥) where
+    -- an end that tells another number
     pub wrong-count : (told ≡ frames → ⊥) → Refused (WrongCount at) ≡ endingAt long at frames told
     wrong-count n = rw (lt-ltb 0 frames (omega (arith, some)), ne-eqb told frames n)
 
-    pub extra-bytes : told ≡ frames → (long ≡ at + 6 + 4 → ⊥) → Refused (Extra (at + 6 + 4)) ≡ endingAt long at frames told
+    -- bytes after it
+    pub extra-bytes : told ≡ frames → (long ≡ at + 6 + 4 → ⊥)
+        → Refused (Extra (at + 6 + 4)) ≡ endingAt long at frames told
     extra-bytes n x = rw (lt-ltb 0 frames (omega (arith, some)), eq-eqb told frames n, ne-eqb long (at + 6 + 4) x)
 
+    -- an end that is right and the last
     pub end-right : told ≡ frames → long ≡ at + 6 + 4 → Sound ≡ endingAt long at frames told
     end-right n x = rw (lt-ltb 0 frames (omega (arith, some)), eq-eqb told frames n, eq-eqb long (at + 6 + 4) x)
 
@@ -66,26 +75,32 @@ data Stepped (s : List ℕ) (w : Walk) : Moved → Type 0 where
   ended : blockAt s (w .at) ≡ End (w .frames) → 0 < w .frames → length s ≡ w .at + 6 + 4 → Stepped s w (Done Sound)
   refused : (cause : Cause) → Stepped s w (refuse cause)
 
+-- so it is of every step
 stepped : (s : List ℕ) (w : Walk) → Stepped s w (stepOf s w)
 unfolding stepOf
 stepped s w = go (blockAt s (w .at)) refl
   where
     go : (b : Block) → blockAt s (w .at) ≡ b → Stepped s w (met s w b)
     go (Head h) e =
-        chosen (Stepped s w) (not (w .headed)) (λ t. passed-head h e (not-true (w .headed) t)) (λ t. refused (OutOfTurn (w .at)))
-    go (Voice size) e = chosen (Stepped s w) (w .headed) (λ t. passed-voice size e t) (λ t. refused (OutOfTurn (w .at)))
+        chosen (Stepped s w) (not (w .headed)) (λ t. passed-head h e (not-true (w .headed) t))
+        (λ t. refused (OutOfTurn (w .at)))
+    go (Voice size) e = chosen (Stepped s w) (w .headed) (λ t. passed-voice size e t)
+        (λ t. refused (OutOfTurn (w .at)))
     go (End told) e =
         chosen (λ (x : Ending). Stepped s w (Done x)) (ltb 0 (w .frames)) (λ a.
         chosen (λ (x : Ending). Stepped s w (Done x)) (eqb told (w .frames)) (λ b.
         chosen (λ (x : Ending). Stepped s w (Done x)) (eqb (length s) (w .at + 6 + 4)) (λ c.
-        ended (e ∙ ap End (eqb-true told (w .frames) b)) (ltb-true 0 (w .frames) a) (eqb-true (length s) (w .at + 6 + 4) c))
-        (λ c. refused (Extra (w .at + 6 + 4)))) (λ b. refused (WrongCount (w .at)))) (λ a. refused (OutOfTurn (w .at)))
+        ended (e ∙ ap End (eqb-true told (w .frames) b)) (ltb-true 0 (w .frames) a)
+        (eqb-true (length s) (w .at + 6 + 4) c))
+        (λ c. refused (Extra (w .at + 6 + 4)))) (λ b. refused (WrongCount (w .at))))
+        (λ a. refused (OutOfTurn (w .at)))
     go (Broken cause) e = refused cause
 
 -- what is so past a head and past a voice block, each in its turn, is so of every walk that a step goes on to
 pub step-on : (s : List ℕ) (w next : Walk) (p : Walk → Type 0)
     → ((h : Heading) → blockAt s (w .at) ≡ Head h → w .headed ≡ false → p (pastHead w h))
-    → ((size : ℕ) → blockAt s (w .at) ≡ Voice size → w .headed ≡ true → p (pastVoice w size)) → stepOf s w ≡ On next → p next
+    → ((size : ℕ) → blockAt s (w .at) ≡ Voice size → w .headed ≡ true → p (pastVoice w size)) → stepOf s w ≡ On next
+    → p next
 step-on s w next p f g o = subst Onward o (of (stepOf s w) (stepped s w))
   where
     Onward : Moved → Type 0
@@ -104,6 +119,7 @@ pub record Ended (s : List ℕ) (w : Walk) : Type 0 where
   pub some : 0 < w .frames
   pub last : length s ≡ w .at + 6 + 4
 
+-- so it is of a step that ends soundly
 pub step-sound : (s : List ℕ) (w : Walk) → stepOf s w ≡ Done Sound → Ended s w
 step-sound s w o = subst Soundly o (of (stepOf s w) (stepped s w))
   where
@@ -124,10 +140,12 @@ pub record Further (s : List ℕ) (w next : Walk) : Type 0 where
   pub within : next .at ≤ length s
   pub room : 18 * w .frames ≤ w .at → 18 * next .frames ≤ next .at
 
+-- so it is of a step that goes on
 pub step-further : (s : List ℕ) (w next : Walk) → stepOf s w ≡ On next → Further s w next
 step-further s w next o =
     step-on s w next (Further s w)
-    (λ h e t. let r = head-held s (w .at) h e in record { on = omega arith; within = r .0 .fits; room = λ z. omega arith })
+    (λ h e t. let r = head-held s (w .at) h e in record
+    { on = omega arith; within = r .0 .fits; room = λ z. omega arith })
     (λ size e t.
     let r = voice-held s (w .at) size e in
     record { on = omega arith; within = r .0 .fits; room = λ z. omega (arith, r .1, r .2) }) o
@@ -136,7 +154,8 @@ step-further s w next o =
 pub walk-step : (s : List ℕ) (w : Walk) → walkFrom s w ≡ onward (walkFrom s) w (stepOf s w)
 unfolding walkFrom
 walk-step s w =
-    turns-once (stopped atStart (Refused (EndMissing (length s)))) (λ further w. onward further w (stepOf s w)) (λ w. length s - w .at)
+    turns-once (stopped atStart (Refused (EndMissing (length s)))) (λ further w. onward further w (stepOf s w))
+    (λ w. length s - w .at)
     falls (suc (length s)) w (omega arith)
   where
     go : (g h : Walk → Walked) (x : Walk) (m : Moved) → stepOf s x ≡ m
@@ -148,9 +167,11 @@ walk-step s w =
         → onward g x (stepOf s x) ≡ onward h x (stepOf s x)
     falls g h x same = go g h x (stepOf s x) refl same
 
+-- a walk that goes on comes to what it comes to from there
 pub walk-on : (s : List ℕ) (w next : Walk) → stepOf s w ≡ On next → walkFrom s w ≡ walkFrom s next
 walk-on s w next e = walk-step s w ∙ ap (onward (walkFrom s) w) e
 
+-- one that ends stands where it ends
 pub walk-done : (s : List ℕ) (w : Walk) (ending : Ending) → stepOf s w ≡ Done ending → walkFrom s w ≡ stopped w ending
 walk-done s w ending e = walk-step s w ∙ ap (onward (walkFrom s) w) e
 
@@ -159,13 +180,17 @@ pub record Walking (s : List ℕ) (start w : Walk) : Type 0 where
   pub rest : walkFrom s w ≡ walkFrom s start
   pub room : 18 * w .frames ≤ w .at
 
+-- at the start
 pub walking-start : (s : List ℕ) (w : Walk) → 18 * w .frames ≤ w .at → Walking s w w
 walking-start s w r = record { rest = refl; room = r }
 
-pub walking-on : {s : List ℕ} {start w : Walk} (next : Walk) → Walking s start w → stepOf s w ≡ On next → Walking s start next
+-- past one more block
+pub walking-on : {s : List ℕ} {start w : Walk} (next : Walk) → Walking s start w → stepOf s w ≡ On next
+    → Walking s start next
 walking-on {s} {start} {w} next k e =
     record { rest = sym (walk-on s w next e) ∙ k .rest; room = step-further s w next e .room (k .room) }
 
+-- at the end
 pub walking-done : {s : List ℕ} {start w : Walk} (ending : Ending) → Walking s start w → stepOf s w ≡ Done ending
     → stopped w ending ≡ walkFrom s start
 walking-done {s} {start} {w} ending k e = sym (walk-done s w ending e) ∙ k .rest
@@ -175,6 +200,7 @@ pub walked-from : (s : List ℕ) → length s ≤ longest → walkedOf s ≡ wal
 unfolding walkedOf
 walked-from s l = rw (le-leb (length s) longest l)
 
+-- too long, it is the walk at the start, refused
 pub too-long : (s : List ℕ) → longest < length s → stopped atStart (Refused TooLong) ≡ walkedOf s
 unfolding walkedOf
 too-long s h = rw (lt-leb (length s) longest h)
@@ -191,6 +217,7 @@ sound-short s e = go (leb (length s) longest) refl e
 
 -- what is so at the start and stays so at each step is so of the walk that is answered, sound or refused
 module _ (s : List ℕ) (p : Walk → Type 0) (stays : (w next : Walk) → p w → stepOf s w ≡ On next → p next) where
+  -- from any walk on, and the step there is the end that is answered
   walk-keeps : (n : ℕ) (w : Walk) → length s - w .at < n → p w
       → p (walkFrom s w .walk) × (stepOf s (walkFrom s w .walk) ≡ Done (walkFrom s w .ending))
   walk-keeps zero w l q = absurd (omega arith)
@@ -205,12 +232,15 @@ module _ (s : List ℕ) (p : Walk → Type 0) (stays : (w next : Walk) → p w �
           subst (λ (r : Walked). p (r .walk) × (stepOf s (r .walk) ≡ Done (r .ending))) (sym (walk-on s w next o))
           (further next (omega (arith, f .on, f .within)) (stays w next q o))
       go (Done ending) o further =
-          subst (λ (r : Walked). p (r .walk) × (stepOf s (r .walk) ≡ Done (r .ending))) (sym (walk-done s w ending o)) (q, o)
+          subst (λ (r : Walked). p (r .walk) × (stepOf s (r .walk) ≡ Done (r .ending))) (sym (walk-done s w ending o))
+          (q, o)
 
+  -- so of the whole
   pub walked-keeps : p atStart → p (walkedOf s .walk)
   unfolding walkedOf
   walked-keeps q =
-      chosen (λ (r : Walked). p (r .walk)) (leb (length s) longest) (λ t. walk-keeps (suc (length s)) atStart (omega arith) q .0) (λ t. q)
+      chosen (λ (r : Walked). p (r .walk)) (leb (length s) longest)
+      (λ t. walk-keeps (suc (length s)) atStart (omega arith) q .0) (λ t. q)
 
 -- the walk that is answered stands at the block that ends it, unless the recording is too long
 pub walked-stops : (s : List ℕ) → length s ≤ longest → stepOf s (walkedOf s .walk) ≡ Done (walkedOf s .ending)

@@ -23,7 +23,8 @@ sizeAt s at = wordAt s at
 abbrev pub kindAt : List ℕ → ℕ → ℕ
 kindAt s at = pairAt s (at + 4)
 
--- Kind 1, head: 8 bytes. Kind 2, voice: a positive multiple of 18. Kind 3, end: 4 bytes. Another kind has no wrong size.
+-- Kind 1, head: 8 bytes. Kind 2, voice: a positive multiple of 18. Kind 3, end: 4 bytes. Another kind has no wrong
+-- size.
 unfoldable pub rightSize : ℕ → ℕ → Bool
 rightSize kind size =
     cond (eqb kind 1) (eqb size 8)
@@ -40,7 +41,8 @@ ofKind s at kind =
     (cond (eqb kind 2) (Voice (sizeAt s at))
     (cond (eqb kind 3) (End (wordAt s (at + 6))) (Broken (UnknownKind at))))
 
--- what stands at a place: a block, or why there is none; of the refusals that one block can have by itself, 7 before 8
+-- what stands at a place: a block, or why there is none; of the refusals that one block can have by itself, 7 before
+-- 8
 unfoldable pub blockAt : List ℕ → ℕ → Block
 blockAt s at =
     unless (ltb at (length s)) (Broken (EndMissing (length s)))

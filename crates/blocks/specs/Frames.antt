@@ -86,7 +86,8 @@ framesIn (p ∷ ps) = eighteens p ++ framesIn ps
 unfoldable pub framesOf : List ℕ → List (List ℕ)
 framesOf s = framesIn (payloadsOf s)
 
--- the next frame from a place on, with so many bytes left of a voice block; with none left, the first of the voice block there
+-- the next frame from a place on, with so many bytes left of a voice block; with none left, the first of the voice
+-- block there
 unfoldable pub foundAt : List ℕ → ℕ → ℕ → Found
 foundAt s at left =
     cond (eqb left 0) (cond (eqb (voiceSize s at) 0) Nothing (At (at + 6) (voiceSize s at - 18)))

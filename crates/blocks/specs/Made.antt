@@ -1,4 +1,5 @@
--- The format described once, by how its bytes are made (document 01, "Recordings"); what is walked through to a sound end is what is
+-- The format described once, by how its bytes are made (document 01, "Recordings"); what is walked through to a sound
+-- end is what is
 -- made so.
 use mathlib.Core.Path.{_≡_}
 use mathlib.Core.Bool.{true}
@@ -67,4 +68,5 @@ abbrev pub Bytes : List ℕ → Type 0
 Bytes s = (i : ℕ) → getD s i 0 < 256
 
 abbrev pub WalkedIsMade : Type 0
-WalkedIsMade = (s : List ℕ) → Bytes s → walkedOf s .ending ≡ Sound → MadeFrom s (walkedOf s .walk .heading) (payloadsOf s)
+WalkedIsMade =
+    (s : List ℕ) → Bytes s → walkedOf s .ending ≡ Sound → MadeFrom s (walkedOf s .walk .heading) (payloadsOf s)

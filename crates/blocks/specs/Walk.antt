@@ -1,4 +1,5 @@
--- A recording is one head, one or more voice blocks, one end, nothing after, at most 65,536 bytes (document 01, "Recordings").
+-- A recording is one head, one or more voice blocks, one end, nothing after, at most 65,536 bytes (document 01,
+-- "Recordings").
 use mathlib.Core.Bool.{true, false, not}
 use mathlib.Core.List.{List}
 use Prim.Native.Nat.{ℕ, suc, _+_, _/_}
@@ -50,7 +51,8 @@ pastVoice w size =
       frames = w .frames + size / 18;
     }
 
--- what a block does to the walk that comes to it. A head is in its turn where there was none, a voice block after the head, the end
+-- what a block does to the walk that comes to it. A head is in its turn where there was none, a voice block after the
+-- head, the end
 -- after a voice block; the end tells the number of frames, and nothing comes after its payload of four bytes.
 abbrev pub atHead : Walk → Heading → Moved
 atHead w heading = unless (not (w .headed)) (refuse (OutOfTurn (w .at))) (On (pastHead w heading))
@@ -79,7 +81,8 @@ stepOf s w = met s w (blockAt s (w .at))
 abbrev pub atStart : Walk
 atStart = record { at = 0; headed = false; heading = record { unit = 0; number = 0 }; voices = 0; frames = 0 }
 
--- step by step to the end. A step passes at least one byte, so more turns than bytes never run out. What was passed is kept:
+-- step by step to the end. A step passes at least one byte, so more turns than bytes never run out. What was passed
+-- is kept:
 -- the walk before the block at which it ends.
 abbrev pub stopped : Walk → Ending → Walked
 stopped w ending = record { walk = w; ending = ending }
@@ -90,7 +93,8 @@ onward further w (Done ending) = stopped w ending
 
 unfoldable pub walkFrom : List ℕ → Walk → Walked
 walkFrom s =
-    turns (stopped atStart (Refused (EndMissing (length s)))) (λ further w. onward further w (stepOf s w)) (suc (length s))
+    turns (stopped atStart (Refused (EndMissing (length s)))) (λ further w. onward further w (stepOf s w))
+    (suc (length s))
 
 -- the whole: what the blocks of a recording come to
 unfoldable pub walkedOf : List ℕ → Walked

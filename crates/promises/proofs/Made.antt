@@ -22,7 +22,8 @@ unfolding framesOf
 made-is-sound s heading ps m =
     let e = made-is-walked s heading ps m in (
       walked-judged s Sound (ap (λ (w : Walked). w .ending) (e .0))
-          ∙ ap₂ (λ (w : Walk) (fs : List (List ℕ)). Judged.Sound (summaryOf w (countsOf fs))) (ap (λ (w : Walked). w .walk) (e .0))
+          ∙ ap₂ (λ (w : Walk) (fs : List (List ℕ)). Judged.Sound (summaryOf w (countsOf fs)))
+          (ap (λ (w : Walked). w .walk) (e .0))
           (ap framesIn (e .1)),
       e .1,
     )
@@ -30,7 +31,8 @@ made-is-sound s heading ps m =
 pub sound-is-made : SoundIsMade
 sound-is-made s x small e =
     let j = judged-sound s x e in
-    subst (λ (h : Heading). MadeFrom s h (payloadsOf s)) (sym (ap (λ (y : Summary). y .heading) (j .1))) (walked-is-made s small (j .0))
+    subst (λ (h : Heading). MadeFrom s h (payloadsOf s)) (sym (ap (λ (y : Summary). y .heading) (j .1)))
+    (walked-is-made s small (j .0))
 
 pub no-two : NoTwo
 no-two s h k ps qs a b =

@@ -11,13 +11,16 @@ use lib.Seq.{length-take-le, take-append-le, drop-append-le}
 use Rattle.laws.specs.Turns.{turns}
 use Rattle.blocks.specs.Blocks.{blockAt, part}
 use Rattle.blocks.specs.Walk.{afterHead, stepOf, walkFrom, walkedOf}
-use Rattle.blocks.specs.Frames.{voiceSize, spanAt, spansFrom, spansOf, nowhere, spanOf, bytesAt, voicesFrom, payloadsOf, voiceBlockOf}
+use Rattle.blocks.specs.Frames.{voiceSize, spanAt, spansFrom, spansOf, nowhere, spanOf, bytesAt, voicesFrom}
+use Rattle.blocks.specs.Frames.{payloadsOf, voiceBlockOf}
 use Rattle.blocks.specs.Frames.{cut, eighteens, framesIn, framesOf}
 use Rattle.blocks.specs.Made.{voiceBlocks}
 use Rattle.recording.specs.Counted.{countsTo, countsOf}
 use Rattle.recording.specs.Judged.{summaryOf, judgedOf}
-use Rattle.promises.specs.Parts.{payloadPlace, Stands, VoiceBlocksStand, NoSuchBlock, joined, FramesAreAll, FramesAreLong}
-use Rattle.promises.specs.Parts.{FramesFit, RefusedHasNone, EmptyRefused, EndCounts, RepairsCounted, BreaksCounted}
+use Rattle.promises.specs.Parts.{payloadPlace, Stands, VoiceBlocksStand, NoSuchBlock, joined}
+use Rattle.promises.specs.Parts.{FramesAreAll, FramesAreLong}
+use Rattle.promises.specs.Parts.{FramesFit, RefusedHasNone, EmptyRefused, EndCounts, RepairsCounted}
+use Rattle.promises.specs.Parts.{BreaksCounted}
 use Rattle.blocks.specs.declared.Cause.{Cause}
 use Rattle.blocks.specs.declared.Span.{Span}
 use Rattle.blocks.specs.declared.Ending.{Ending}
@@ -41,14 +44,17 @@ spanFor at ps k =
       to = at + length (voiceBlocks (take k ps)) + 6 + length (getD ps k []);
     }
 
+-- two parts are the same where both ends are
 same-span : (a b c d : ℕ) → a ≡ c → b ≡ d → _≡_ {A = Span} (record { from = a; to = b }) (record { from = c; to = d })
 same-span a b c d p q i = record { from = p i; to = q i }
 
+-- so the k-th place is
 voices-stand : (s : List ℕ) (k at : ℕ) → k < length (voicesFrom s at)
     → getD (spansFrom s at) k nowhere ≡ spanFor at (voicesFrom s at) k
 voices-stand s zero at l = go (voiceSize s at) refl (ℕ-discrete (voiceSize s at) 0)
   where
-    go : (size : ℕ) → size ≡ voiceSize s at → Dec (size ≡ 0) → getD (spansFrom s at) 0 nowhere ≡ spanFor at (voicesFrom s at) 0
+    go : (size : ℕ) → size ≡ voiceSize s at → Dec (size ≡ 0)
+        → getD (spansFrom s at) 0 nowhere ≡ spanFor at (voicesFrom s at) 0
     go size e (yes z) = absurd (let n = ap length (voices-none s at size e z) in omega (arith, n))
     go size e (no z) =
         let t = voice-sized s at size e z in
@@ -59,10 +65,12 @@ voices-stand s zero at l = go (voiceSize s at) refl (ℕ-discrete (voiceSize s a
         ∙ same-span (at + 6) (at + 6 + size) (at + length (voiceBlocks []) + 6)
         (at + length (voiceBlocks []) + 6 + length (part s (at + 6) size)) (omega (arith, b)) (omega (arith, b, n))
         ∙ ap (λ (x : List (List ℕ)). spanFor at x 0) (sym (voices-more s at size e z))
-voices-stand s (suc k) at l = go (voiceSize s at) refl (ℕ-discrete (voiceSize s at) 0) (λ next m. voices-stand s k next m)
+voices-stand s (suc k) at l = go (voiceSize s at) refl (ℕ-discrete (voiceSize s at) 0)
+    (λ next m. voices-stand s k next m)
   where
     go : (size : ℕ) → size ≡ voiceSize s at → Dec (size ≡ 0)
-        → ((next : ℕ) → k < length (voicesFrom s next) → getD (spansFrom s next) k nowhere ≡ spanFor next (voicesFrom s next) k)
+        → ((next : ℕ) → k < length (voicesFrom s next)
+        → getD (spansFrom s next) k nowhere ≡ spanFor next (voicesFrom s next) k)
         → getD (spansFrom s at) (suc k) nowhere ≡ spanFor at (voicesFrom s at) (suc k)
     go size e (yes z) further = absurd (let n = ap length (voices-none s at size e z) in omega (arith, n))
     go size e (no z) further =
@@ -103,9 +111,11 @@ blocks-most (p ∷ ps) (suc k) =
 
 -- in a sound recording
 module _ (s : List ℕ) (e : walkedOf s .ending ≡ Sound) (k : ℕ) (l : k < length (payloadsOf s)) where
+  -- it is among those after the head
   in-voices : k < length (voicesFrom s (afterHead 0))
   in-voices = subst (λ (x : List (List ℕ)). k < length x) (sound-whole s e .voices) l
 
+  -- the k-th place is after the head and the voice blocks before it
   stands-there : spanOf s k ≡ spanFor (afterHead 0) (payloadsOf s) k
   unfolding spanOf
   stands-there =
@@ -115,11 +125,14 @@ module _ (s : List ℕ) (e : walkedOf s .ending ≡ Sound) (k : ℕ) (l : k < le
       ∙ voices-stand s k (afterHead 0) in-voices
       ∙ ap (λ (x : List (List ℕ)). spanFor (afterHead 0) x k) (sym (o .voices))
 
+  -- the k-th payload is of whole frames
   sized-there : (0 < length (getD (payloadsOf s) k [])) × (length (getD (payloadsOf s) k []) % 18 ≡ 0)
   sized-there =
-      subst (λ (x : List (List ℕ)). (0 < length (getD x k [])) × (length (getD x k []) % 18 ≡ 0)) (sym (sound-whole s e .voices))
+      subst (λ (x : List (List ℕ)). (0 < length (getD x k [])) × (length (getD x k []) % 18 ≡ 0))
+      (sym (sound-whole s e .voices))
       (payload-sized s k (afterHead 0) in-voices)
 
+  -- so it stands there
   stands : Stands s k
   unfolding voiceBlockOf
   stands =
@@ -168,12 +181,15 @@ cut-append (suc m) n p q l =
     ∙ ap₂ (λ (f r : List ℕ). f ∷ cut (m + n) r) (take-append-le 18 p q h) (drop-append-le 18 p q h)
     ∙ ap (λ (r : List (List ℕ)). take 18 p ∷ r) (cut-append m n (drop 18 p) q d)
 
-frames-joined : (ps : List (List ℕ)) → ((k : ℕ) → k < length ps → length (getD ps k []) % 18 ≡ 0) → framesIn ps ≡ eighteens (joined ps)
+-- so with all payloads put together
+frames-joined : (ps : List (List ℕ)) → ((k : ℕ) → k < length ps → length (getD ps k []) % 18 ≡ 0)
+    → framesIn ps ≡ eighteens (joined ps)
 unfolding framesIn joined cut
 frames-joined [] w = refl
 frames-joined (p ∷ ps) w =
     let z : length p % 18 ≡ 0 = w 0 (omega arith) in
-    let n : length (p ++ joined ps) / 18 ≡ length p / 18 + length (joined ps) / 18 = simp length-append (omega arith) in
+    let n : length (p ++ joined ps) / 18 ≡ length p / 18 + length (joined ps) / 18 = simp length-append (omega arith)
+    in
     ap (λ (r : List (List ℕ)). eighteens p ++ r) (frames-joined ps (λ k l. w (suc k) (omega arith)))
     ∙ sym (cut-append (length p / 18) (length (joined ps) / 18) p (joined ps) (omega arith))
     ∙ ap (λ (k : ℕ). cut k (p ++ joined ps)) (sym n)

@@ -15,12 +15,14 @@ use Rattle.laws.specs.Place.{placeIn}
 use Rattle.laws.proofs.Table.{both-left, both-right, below}
 use Rattle.laws.proofs.Chosen.{chosen}
 use Rattle.blocks.specs.Blocks.{sizeAt, kindAt, rightSize, headingAt, ofKind, blockAt}
-use Rattle.blocks.specs.Walk.{longest, refuse, pastHead, pastVoice, endingAt, met, stepOf, atStart, walkFrom, walkedOf}
+use Rattle.blocks.specs.Walk.{longest, refuse, pastHead, pastVoice, endingAt, met, stepOf, atStart, walkFrom}
+use Rattle.blocks.specs.Walk.{walkedOf}
 use Rattle.blocks.specs.Frames.{framesOf}
 use Rattle.blocks.specs.Refusals.{refusalOf}
 use Rattle.recording.specs.Counted.{countsOf}
 use Rattle.recording.specs.Judged.{summaryOf, judgedBy, judgedOf}
-use Rattle.promises.specs.Rule.{knownKind, inTurn, Condition, order, tried, LowestFirst, NoneMet, ClearBefore, Reached, Given}
+use Rattle.promises.specs.Rule.{knownKind, inTurn, Condition, order, tried, LowestFirst, NoneMet}
+use Rattle.promises.specs.Rule.{ClearBefore, Reached, Given}
 use Rattle.promises.specs.Rule.{Accepted, RefusedExactly, RefusedKeeps, SoundExactly}
 use Rattle.promises.specs.Rule.Reached.{at-first, past-head, past-voice}
 use Rattle.blocks.specs.declared.Cause.{Cause}
@@ -75,7 +77,8 @@ order-small (WrongCount p) = omega arith
 order-small (Extra p) = omega arith
 
 -- one more that is not met
-clear-more : (s : List ℕ) (w : Walk) (n : ℕ) → ClearBefore s w n → (Condition s w (causeBy s w n) → ⊥) → ClearBefore s w (suc n)
+clear-more : (s : List ℕ) (w : Walk) (n : ℕ) → ClearBefore s w n → (Condition s w (causeBy s w n) → ⊥)
+    → ClearBefore s w (suc n)
 clear-more s w n clear none c l q = go (ℕ-discrete (order c) n)
   where
     go : Dec (order c ≡ n) → ⊥
@@ -105,6 +108,7 @@ first-alone s w c d p a q b = named s w c p ∙ ap (causeBy s w) same ∙ sym (n
 turnBy : ℕ → ℕ
 turnBy n = placeIn (refusalOf (causeBy [] atStart n)) tried
 
+-- a cause's number has the turn of its order
 by-order : (c : Cause) → placeIn (refusalOf c) tried ≡ turnBy (order c)
 unfolding turnBy causeBy
 by-order TooLong = refl
@@ -121,10 +125,12 @@ by-order (Extra p) = refl
 rising : ℕ → ℕ → Bool
 rising m n = both (leb (suc (turnBy m)) (length tried)) (cond (leb m n) (leb (turnBy m) (turnBy n)) true)
 
+-- it is so
 all-rising : T (allBelow 9 (λ m. allBelow 9 (rising m)))
 unfolding rising turnBy causeBy placeIn
 all-rising = tt
 
+-- a test that passes says so
 passes : (a b : ℕ) → T (leb a b) → a ≤ b
 passes a b t = go (leb a b) refl t
   where
@@ -132,12 +138,14 @@ passes a b t = go (leb a b) refl t
     go true e t = leb-true a b e
     go false e t = absurd t
 
+-- so a later order has no earlier turn
 rises : (m n : ℕ) → m < 9 → n < 9 → m ≤ n → (turnBy m ≤ turnBy n) × (turnBy m < length tried)
 unfolding rising
 rises m n a b h =
     let t = below (rising m) 9 (below (λ m. allBelow 9 (rising m)) 9 all-rising m a) n b in
     let u = both-right (leb (suc (turnBy m)) (length tried)) (cond (leb m n) (leb (turnBy m) (turnBy n)) true) t in (
-      passes (turnBy m) (turnBy n) (subst (λ (x : Bool). T (cond x (leb (turnBy m) (turnBy n)) true)) (le-leb m n h) u),
+      passes (turnBy m) (turnBy n) (subst (λ (x : Bool). T (cond x (leb (turnBy m) (turnBy n)) true)) (le-leb m n h)
+          u),
       passes (suc (turnBy m)) (length tried)
           (both-left (leb (suc (turnBy m)) (length tried)) (cond (leb m n) (leb (turnBy m) (turnBy n)) true) t),
     )
@@ -147,6 +155,7 @@ lowest-first c d h = rw (by-order c, by-order d) (rises (order c) (order d) (ord
 
 -- ---- kinds and turns as tests
 
+-- a test does not come out both ways
 clash : (b : Bool) → b ≡ true → b ≡ false → ⊥
 clash b p q = let z : _≡_ {A = ℕ} 0 1 = cc in omega arith
 
@@ -198,6 +207,7 @@ module _ (s : List ℕ) (w : Walk) (inside : w .at ≤ length s) (short : length
   abbrev size : ℕ
   size = sizeAt s (w .at)
 
+  -- nothing comes before the first
   clear-none : ClearBefore s w 0
   clear-none c l q = omega arith
 
@@ -246,11 +256,13 @@ module _ (s : List ℕ) (w : Walk) (inside : w .at ≤ length s) (short : length
             clear-turn : ClearBefore s w 7
             unfolding causeBy
             clear-turn =
-                clear-more s w 6 (clear-more s w 5 clear-kind (λ q. clash (inTurn w kind) turn (q .2))) (λ q. omega (arith, q .1))
+                clear-more s w 6 (clear-more s w 5 clear-kind (λ q. clash (inTurn w kind) turn (q .2)))
+                (λ q. omega (arith, q .1))
 
             clean-unless-end : (kind ≡ 3 → ⊥) → NoneMet s w
             unfolding causeBy
-            clean-unless-end n = clear-all s w (clear-more s w 8 (clear-more s w 7 clear-turn (λ q. n (q .2))) (λ q. n (q .1)))
+            clean-unless-end n =
+                clear-all s w (clear-more s w 8 (clear-more s w 7 clear-turn (λ q. n (q .2))) (λ q. n (q .1)))
 
             clear-count : wordAt s (w .at + 6) ≡ w .frames → ClearBefore s w 8
             unfolding causeBy
@@ -267,7 +279,8 @@ module _ (s : List ℕ) (w : Walk) (inside : w .at ≤ length s) (short : length
             chosen (λ (x : Ending). Seen s w (Done x)) (eqb (wordAt s (w .at + 6)) (w .frames)) (λ b.
             chosen (λ (x : Ending). Seen s w (Done x)) (eqb (length s) (w .at + 6 + 4)) (λ c.
             let e = eqb-true (length s) (w .at + 6 + 4) c in
-            seen-end (clean-end (known-end k) (turn-end w k ∙ a) (eqb-true (wordAt s (w .at + 6)) (w .frames) b) (omega (arith, e))) k)
+            seen-end (clean-end (known-end k) (turn-end w k ∙ a) (eqb-true (wordAt s (w .at + 6)) (w .frames) b)
+            (omega (arith, e))) k)
             (λ c.
             let e = eqb-false (length s) (w .at + 6 + 4) c in
             let z = end-size kind size right k in
@@ -294,7 +307,12 @@ module _ (s : List ℕ) (w : Walk) (inside : w .at ≤ length s) (short : length
             (λ b.
             chosen (λ (b : Block). Seen s w (met s w b)) (eqb kind 3) (λ c. see-end (eqb-true kind 3 c))
             (λ c.
-            seen-refused (UnknownKind (w .at)) (refl, whole, kind-other (eqb-false kind 1 a) (eqb-false kind 2 b) (eqb-false kind 3 c))
+            seen-refused (UnknownKind (w .at)) (
+              refl,
+              whole,
+              kind-other (eqb-false kind 1 a) (eqb-false kind 2 b)
+                  (eqb-false kind 3 c),
+            )
             clear-size)))
 
   -- any step
@@ -308,9 +326,11 @@ module _ (s : List ℕ) (w : Walk) (inside : w .at ≤ length s) (short : length
       let fits = leb-true (w .at + 6 + size) (length s) c in
       chosen (λ (b : Block). Seen s w (met s w b)) (rightSize kind size) (see-kind whole fits)
       (λ r. seen-refused (WrongSize (w .at)) (refl, whole, r) (clear-past whole fits)))
-      (λ c. seen-refused (PastEnd (w .at)) (refl, whole, leb-false (w .at + 6 + size) (length s) c) (clear-cut whole)))
+      (λ c. seen-refused (PastEnd (w .at)) (refl, whole, leb-false (w .at + 6 + size) (length s) c)
+      (clear-cut whole)))
       (λ b.
-      seen-refused (HeaderCut (w .at)) (refl, ltb-true (w .at) (length s) a, leb-false (w .at + 6) (length s) b) clear-long))
+      seen-refused (HeaderCut (w .at)) (refl, ltb-true (w .at) (length s) a, leb-false (w .at + 6) (length s) b)
+      clear-long))
       (λ a. see-nothing (ltb-false (w .at) (length s) a))
 
 -- ---- from the answer to the block that gives it
@@ -321,6 +341,7 @@ Says s w (On next) = Reached s w → Reached s next
 Says s w (Done Sound) = NoneMet s w × (kindAt s (w .at) ≡ 3)
 Says s w (Done (Refused c)) = Condition s w c × ClearBefore s w (order c)
 
+-- a step says what was seen
 says : (s : List ℕ) (w : Walk) (m : Moved) → Seen s w m → Says s w m
 unfolding Says
 says s w _ (seen-refused c q clear) = (q, clear)
@@ -339,24 +360,35 @@ module _ (s : List ℕ) (short : length s ≤ longest) where
       onto : (w next : Walk) → Reached s w × (w .at ≤ length s) → stepOf s w ≡ On next → Reached s next
       onto w next k o = subst (Says s w) o (says s w (stepOf s w) (seen s w (k .1) short)) (k .0)
 
+  -- so at the end
   said : Says s (walkedOf s .walk) (Done (walkedOf s .ending))
   said =
       subst (Says s (walkedOf s .walk)) (walks.walked-stops s short)
       (says s (walkedOf s .walk) (stepOf s (walkedOf s .walk)) (seen s (walkedOf s .walk) (kept .1) short))
 
-refused-given : (s : List ℕ) (c : Cause) → walkedOf s .ending ≡ Refused c → (g : Given s c) × (g .walk ≡ walkedOf s .walk)
+-- a refusal is given at the block where the walk stands
+refused-given : (s : List ℕ) (c : Cause) → walkedOf s .ending ≡ Refused c
+    → (g : Given s c) × (g .walk ≡ walkedOf s .walk)
 unfolding Says
 refused-given s c e = go (decLt longest (length s))
   where
     go : Dec (longest < length s) → (g : Given s c) × (g .walk ≡ walkedOf s .walk)
     go (yes l) =
         let i = walks.too-long s l in
-        let y : c ≡ TooLong = let z = sym e ∙ sym (ap (λ (w : Walked). w .ending) i) in cc in
-        (subst (Given s) (sym y) (record { walk = atStart; reached = at-first; here = l; first = λ c m q. omega arith }), ap (λ (w : Walked). w .walk) i)
+        let y : c ≡ TooLong = let z = sym e ∙ sym (ap (λ (w : Walked). w .ending) i) in cc in (
+          subst (Given s) (sym y) (record {
+            walk = atStart;
+            reached = at-first;
+            here = l;
+            first = λ c m q. omega arith;
+          }),
+          ap (λ (w : Walked). w .walk) i,
+        )
     go (no l) =
         let q = subst (λ (x : Ending). Says s (walkedOf s .walk) (Done x)) e (said s (omega arith)) in
         (record { walk = walkedOf s .walk; reached = kept s (omega arith) .0; here = q .0; first = q .1 }, refl)
 
+-- a sound end is an end block at which no condition is met
 sound-accepted : (s : List ℕ) → walkedOf s .ending ≡ Sound → Accepted s
 unfolding Says
 sound-accepted s e =
@@ -372,10 +404,12 @@ module _ (s : List ℕ) (short : length s ≤ longest) where
     rest : walkFrom s w ≡ walkFrom s atStart
     within : w .at ≤ length s
 
+  -- past one more block
   onto-next : (w next : Walk) → Onto w → stepOf s w ≡ On next → Onto next
   onto-next w next k o =
       record { rest = sym (walks.walk-on s w next o) ∙ k .rest; within = walks.step-further s w next o .within }
 
+  -- so of every block that is reached
   reached-onto : (w : Walk) → Reached s w → Onto w
   reached-onto _ at-first = record { rest = refl; within = omega arith }
   reached-onto _ (past-head w r clean k) =
@@ -400,15 +434,19 @@ module _ (s : List ℕ) (short : length s ≤ longest) where
   -- and an end there is the end of the whole
   ends : (w : Walk) (ending : Ending) → Reached s w → stepOf s w ≡ Done ending → walkedOf s .ending ≡ ending
   ends w ending r o =
-      ap (λ (x : Walked). x .ending) (walks.walked-from s short ∙ sym (reached-onto w r .rest) ∙ walks.walk-done s w ending o)
+      ap (λ (x : Walked). x .ending) (walks.walked-from s short ∙ sym (reached-onto w r .rest)
+      ∙ walks.walk-done s w ending o)
 
+-- where a refusal is given, the walk ends with it
 given-refused : (s : List ℕ) (c : Cause) → Given s c → walkedOf s .ending ≡ Refused c
 unfolding causeBy
 given-refused s c g = go (decLt longest (length s))
   where
-    at-block : length s ≤ longest → (m : Moved) → stepOf s (g .walk) ≡ m → Seen s (g .walk) m → walkedOf s .ending ≡ Refused c
+    at-block : length s ≤ longest → (m : Moved) → stepOf s (g .walk) ≡ m → Seen s (g .walk) m
+        → walkedOf s .ending ≡ Refused c
     at-block short m o (seen-refused d q clear) =
-        ends s short (g .walk) (Refused d) (g .reached) o ∙ ap Refused (first-alone s (g .walk) d c q clear (g .here) (g .first))
+        ends s short (g .walk) (Refused d) (g .reached) o
+        ∙ ap Refused (first-alone s (g .walk) d c q clear (g .here) (g .first))
     at-block short m o (seen-head clean k) = absurd (clean c (g .here))
     at-block short m o (seen-voice clean k) = absurd (clean c (g .here))
     at-block short m o (seen-end clean k) = absurd (clean c (g .here))
@@ -425,10 +463,12 @@ given-refused s c g = go (decLt longest (length s))
         at-block (omega arith) (stepOf s (g .walk)) refl
         (seen s (g .walk) (reached-onto s (omega arith) (g .walk) (g .reached) .within) (omega arith))
 
+-- where an end block is accepted, the walk ends soundly
 accepted-sound : (s : List ℕ) → Accepted s → walkedOf s .ending ≡ Sound
 accepted-sound s a = go (decLt longest (length s))
   where
-    at-block : length s ≤ longest → (m : Moved) → stepOf s (a .walk) ≡ m → Seen s (a .walk) m → walkedOf s .ending ≡ Sound
+    at-block : length s ≤ longest → (m : Moved) → stepOf s (a .walk) ≡ m → Seen s (a .walk) m
+        → walkedOf s .ending ≡ Sound
     at-block short m o (seen-refused d q clear) = absurd (a .clean d q)
     at-block short m o (seen-head clean k) = absurd (let z = a .end in omega (arith, z))
     at-block short m o (seen-voice clean k) = absurd (let z = a .end in omega (arith, z))
@@ -447,10 +487,12 @@ pub judged-refused : (s : List ℕ) (c : Cause) → judgedOf s ≡ Judged.Refuse
 unfolding judgedOf
 judged-refused s c e = go (walkedOf s .ending) e
   where
-    go : (x : Ending) → judgedBy x (summaryOf (walkedOf s .walk) (countsOf (framesOf s))) ≡ Judged.Refused c → x ≡ Refused c
+    go : (x : Ending) → judgedBy x (summaryOf (walkedOf s .walk) (countsOf (framesOf s))) ≡ Judged.Refused c
+        → x ≡ Refused c
     go Sound e = absurd (let z : _≡_ {A = ℕ} 0 1 = cc in omega arith)
     go (Refused d) e = let y : d ≡ c = cc in ap Refused y
 
+-- sound, with what was passed and the counts
 pub judged-sound : (s : List ℕ) (x : Summary) → judgedOf s ≡ Judged.Sound x
     → (walkedOf s .ending ≡ Sound) × (x ≡ summaryOf (walkedOf s .walk) (countsOf (framesOf s)))
 unfolding judgedOf
@@ -461,6 +503,7 @@ judged-sound s x e = go (walkedOf s .ending) e
     go Sound e = (refl, cc)
     go (Refused d) e = absurd (let z : _≡_ {A = ℕ} 0 1 = cc in omega arith)
 
+-- and the other way
 pub walked-judged : (s : List ℕ) (x : Ending) → walkedOf s .ending ≡ x
     → judgedOf s ≡ judgedBy x (summaryOf (walkedOf s .walk) (countsOf (framesOf s)))
 unfolding judgedOf

@@ -1,4 +1,5 @@
--- What is shown of the parts of a recording: where its voice blocks stand, that their frames are all its frames, and its counts.
+-- What is shown of the parts of a recording: where its voice blocks stand, that their frames are all its frames, and
+-- its counts.
 use mathlib.Core.Path.{_≡_}
 use mathlib.Core.List.{List, [], _∷_, _++_}
 use Prim.Native.Nat.{ℕ, suc, _+_, _*_, _%_, _<_, _≤_}
@@ -20,7 +21,8 @@ use Rattle.recording.specs.declared.Judged.the-variants.{Sound, Refused}
 abbrev pub payloadPlace : List (List ℕ) → ℕ → ℕ
 payloadPlace ps k = afterHead 0 + length (voiceBlocks (take k ps)) + 6
 
--- the k-th voice block of a recording is that part of its bytes, of whole frames; it ends before the next begins, and ten bytes for the
+-- the k-th voice block of a recording is that part of its bytes, of whole frames; it ends before the next begins, and
+-- ten bytes for the
 -- end block come after it
 pub record Stands (s : List ℕ) (k : ℕ) : Type 0 where
   pub from : spanOf s k .from ≡ payloadPlace (payloadsOf s) k

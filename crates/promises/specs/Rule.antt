@@ -1,4 +1,5 @@
--- When a recording is refused, and by which refusal (document 01, "Refusal numbers"): each is given exactly when its condition is
+-- When a recording is refused, and by which refusal (document 01, "Refusal numbers"): each is given exactly when its
+-- condition is
 -- met and none earlier is.
 use mathlib.Core.Path.{_≡_}
 use mathlib.Core.Bool.{Bool, true, false, not, cond}
@@ -56,7 +57,8 @@ order (EndMissing p) = 6
 order (WrongCount p) = 7
 order (Extra p) = 8
 
--- "1, then block by block, 7 before 8": the numbers as they are tried at one block. In that order the lowest number comes first.
+-- "1, then block by block, 7 before 8": the numbers as they are tried at one block. In that order the lowest number
+-- comes first.
 abbrev pub tried : List ℕ
 tried = 1 ∷ 7 ∷ 8 ∷ []
 
@@ -75,8 +77,10 @@ ClearBefore s w n = (c : Cause) → order c < n → Condition s w c → ⊥
 -- block by block: where a walk comes that passes blocks at which no refusal's condition is met
 pub data Reached (s : List ℕ) : Walk → Type 0 where
   at-first : Reached s atStart
-  past-head : (w : Walk) → Reached s w → NoneMet s w → kindAt s (w .at) ≡ 1 → Reached s (pastHead w (headingAt s (w .at)))
-  past-voice : (w : Walk) → Reached s w → NoneMet s w → kindAt s (w .at) ≡ 2 → Reached s (pastVoice w (sizeAt s (w .at)))
+  past-head : (w : Walk) → Reached s w → NoneMet s w → kindAt s (w .at) ≡ 1
+      → Reached s (pastHead w (headingAt s (w .at)))
+  past-voice : (w : Walk) → Reached s w → NoneMet s w → kindAt s (w .at) ≡ 2
+      → Reached s (pastVoice w (sizeAt s (w .at)))
 
 -- a refusal's condition is met at a block that is reached, and none earlier is
 pub record Given (s : List ℕ) (c : Cause) : Type 0 where
@@ -97,7 +101,8 @@ RefusedExactly = (s : List ℕ) (c : Cause) → (judgedOf s ≡ Refused c) ↔ G
 
 -- the walk that is answered with a refusal stands at a block at which it is given: what was passed before it is kept
 abbrev pub RefusedKeeps : Type 0
-RefusedKeeps = (s : List ℕ) (c : Cause) → walkedOf s .ending ≡ Ending.Refused c → (g : Given s c) × (g .walk ≡ walkedOf s .walk)
+RefusedKeeps =
+    (s : List ℕ) (c : Cause) → walkedOf s .ending ≡ Ending.Refused c → (g : Given s c) × (g .walk ≡ walkedOf s .walk)
 
 abbrev pub SoundExactly : Type 0
 SoundExactly = (s : List ℕ) → ((x : Summary) × (judgedOf s ≡ Sound x)) ↔ Accepted s

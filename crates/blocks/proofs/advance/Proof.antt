@@ -13,8 +13,11 @@ meet-head-requires c κs =
 
 meet-voice-requires : tie.Need-meet-voice-requires
 meet-voice-requires c κs =
-    let r = voice-held _ _ _ (sym (c .before .before .before .block-at .ensures) ∙ c .before .size .given .1) in
-    (omega (arith, r .0 .fits, c .before .before .before .before .before .pre), c .before .before .before .before .before .pre .1)
+    let r = voice-held _ _ _ (sym (c .before .before .before .block-at .ensures) ∙ c .before .size .given .1) in (
+      omega (arith, r .0 .fits, c .before .before .before .before .before .pre),
+      c .before .before .before .before
+          .before .pre .1,
+    )
 
 meet-end-requires : tie.Need-meet-end-requires
 meet-end-requires c κs =
@@ -23,22 +26,27 @@ meet-end-requires c κs =
 
 returns : tie.Need-returns
 returns c =
-    c .meet-head .ensures ∙ step-met _ _ _ (sym (c .before .before .before .before .block-at .ensures) ∙ c .before .before .heading .given .1)
+    c .meet-head .ensures ∙ step-met _ _ _ (sym (c .before .before .before .before .block-at .ensures)
+    ∙ c .before .before .heading .given .1)
 
 returns-2 : tie.Need-returns-2
 returns-2 c =
-    c .meet-voice .ensures ∙ step-met _ _ _ (sym (c .before .before .before .before .block-at .ensures) ∙ c .before .before .size .given .1)
+    c .meet-voice .ensures ∙ step-met _ _ _ (sym (c .before .before .before .before .block-at .ensures)
+    ∙ c .before .before .size .given .1)
 
 returns-3 : tie.Need-returns-3
 returns-3 c =
-    c .meet-end .ensures ∙ step-met _ _ _ (sym (c .before .before .before .before .block-at .ensures) ∙ c .before .before .told .given .1)
+    c .meet-end .ensures ∙ step-met _ _ _ (sym (c .before .before .before .before .block-at .ensures)
+    ∙ c .before .before .told .given .1)
 
 returns-4 : tie.Need-returns-4
 returns-4 c =
-    c .refuse .ensures ∙ step-met _ _ _ (sym (c .before .before .before .before .block-at .ensures) ∙ c .before .before .cause .given .1)
+    c .refuse .ensures ∙ step-met _ _ _ (sym (c .before .before .before .before .block-at .ensures)
+    ∙ c .before .before .cause .given .1)
 
 pub advance-spec : {M : Type 1} → statement M
 advance-spec =
     tie.close
-    (tie.spec (search needs) (search needs) meet-head-requires (search needs) meet-voice-requires (search needs) meet-end-requires
+    (tie.spec (search needs) (search needs) meet-head-requires (search needs) meet-voice-requires (search needs)
+    meet-end-requires
     (search needs) (search needs) returns returns-2 returns-3 returns-4)

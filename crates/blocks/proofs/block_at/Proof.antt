@@ -19,5 +19,6 @@ returns-4 c = c .block-by-kind .ensures
 pub block-at-spec : {M : Type 1} → statement M
 block-at-spec =
     tie.close
-    (tie.spec returns (λ c. omega arith) returns-2 (λ c κs. omega arith) (search needs) (λ c. omega arith) (λ c. omega arith) returns-3 (search needs)
+    (tie.spec returns (λ c. omega arith) returns-2 (λ c κs. omega arith) (search needs) (λ c. omega arith)
+    (λ c. omega arith) returns-3 (search needs)
     returns-4)

@@ -18,5 +18,6 @@ returns-4 c = end-right _ _ _ _ (c .before .before .if1 .left) (c .before .if2 .
 pub ending-at-spec : {M : Type 1} → statement M
 ending-at-spec =
     tie.close
-    (tie.spec returns returns-2 (λ c. omega (arith, c .before .before .pre)) (λ c. omega (arith, c .before .before .pre)) returns-3
+    (tie.spec returns returns-2 (λ c. omega (arith, c .before .before .pre))
+    (λ c. omega (arith, c .before .before .pre)) returns-3
     returns-4)

@@ -32,4 +32,5 @@ returns-6 c = next-frame _ _ _ (c .before .before .before .if1 .left) (c .before
 pub find-spec : {M : Type 1} → statement M
 find-spec =
     tie.close
-    (tie.spec (search needs) returns add-first sub-rest returns-2 returns-3 returns-4 (search needs) returns-5 returns-6)
+    (tie.spec (search needs) returns add-first sub-rest returns-2 returns-3 returns-4 (search needs) returns-5
+    returns-6)

@@ -8,5 +8,6 @@ returns c i = record { unit = c .before .word .ensures i; number = c .word2 .ens
 pub heading-at-spec : {M : Type 1} → statement M
 heading-at-spec =
     tie.close
-    (tie.spec (λ c. omega (arith, c .before .pre)) (λ c κs. omega (arith, c .before .pre)) (λ c. omega (arith, c .before .before .pre))
+    (tie.spec (λ c. omega (arith, c .before .pre)) (λ c κs. omega (arith, c .before .pre))
+    (λ c. omega (arith, c .before .before .pre))
     (λ c κs. omega (arith, c .before .before .pre)) returns)

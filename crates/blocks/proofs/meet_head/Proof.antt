@@ -14,4 +14,5 @@ returns-2 c = first-head (c .before .args .w) _ (c .if1 .left)
 pub meet-head-spec : {M : Type 1} → statement M
 meet-head-spec =
     tie.close
-    (tie.spec (search needs) returns (λ c. omega (arith, c .before .pre)) (λ c. omega (arith, c .before .pre)) returns-2)
+    (tie.spec (search needs) returns (λ c. omega (arith, c .before .pre)) (λ c. omega (arith, c .before .pre))
+    returns-2)

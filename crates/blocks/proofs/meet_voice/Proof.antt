@@ -14,5 +14,6 @@ returns-2 c = c .refuse .ensures ∙ voice-first (c .before .before .args .w) _ 
 pub meet-voice-spec : {M : Type 1} → statement M
 meet-voice-spec =
     tie.close
-    (tie.spec (λ c. omega (arith, c .before .pre)) (λ c. omega (arith, c .before .pre)) (λ c. omega (arith, c .before .pre))
+    (tie.spec (λ c. omega (arith, c .before .pre)) (λ c. omega (arith, c .before .pre))
+    (λ c. omega (arith, c .before .pre))
     (λ c. omega (arith, c .before .before .pre)) returns (search needs) returns-2)

@@ -26,19 +26,24 @@ add-to c = let t = voice-sized _ _ _ (c .before .voice-size .ensures) (c .if1 .l
 
 returns-2 : tie.Need-returns-2 Inv-loop μ-loop
 returns-2 c =
-    seeking-found _ (c .before .before .voice-size .ensures) (c .before .before .before .loop .inv) (c .before .if1 .left) (c .if2 .taken)
+    seeking-found _ (c .before .before .voice-size .ensures) (c .before .before .before .loop .inv)
+    (c .before .if1 .left) (c .if2 .taken)
 
 sub-before : tie.Need-sub-before Inv-loop μ-loop
 sub-before c = omega arith
 
 loop-less : tie.Need-loop-less Inv-loop μ-loop
-loop-less c = let t = voice-sized _ _ _ (c .before .before .voice-size .ensures) (c .before .if1 .left) in omega (arith, t .fits)
+loop-less c =
+    let t =
+    voice-sized _ _ _ (c .before .before .voice-size .ensures) (c .before .if1 .left) in omega (arith, t .fits)
 
 loop-again : tie.Need-loop-again Inv-loop μ-loop
 loop-again c =
-    seeking-on _ (c .before .before .voice-size .ensures) (c .before .before .before .loop .inv) (c .before .if1 .left) (c .if2 .left)
+    seeking-on _ (c .before .before .voice-size .ensures) (c .before .before .before .loop .inv)
+    (c .before .if1 .left) (c .if2 .left)
 
 pub span-from-spec : {M : Type 1} → statement M
 span-from-spec =
     tie.close
-    (tie.spec Inv-loop μ-loop loop-holds (search needs) returns add-from add-to returns-2 sub-before loop-less loop-again)
+    (tie.spec Inv-loop μ-loop loop-holds (search needs) returns add-from add-to returns-2 sub-before loop-less
+    loop-again)

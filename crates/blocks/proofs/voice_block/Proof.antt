@@ -16,7 +16,11 @@ part-result-end : tie.Need-part-result-end
 part-result-end c = told-placed _ _ _ (c .voice-span .ensures) .within
 
 returns : tie.Need-returns
-returns c = (told-bytes _ _ _ (c .before .voice-span .ensures), ap (λ (r : Span). bytesOn (c .before .before .before .args .s .ptr) (r .from)) (c .before .voice-span .ensures))
+returns c = (
+  told-bytes _ _ _ (c .before .voice-span .ensures),
+  ap
+      (λ (r : Span). bytesOn (c .before .before .before .args .s .ptr) (r .from)) (c .before .voice-span .ensures),
+)
 
 pub voice-block-spec : {M : Type 1} → statement M
 voice-block-spec = tie.close (tie.spec (search needs) sub-result part-result-start part-result-end returns)

@@ -19,4 +19,5 @@ returns-4 c = broken-no-voice _ _ _ (sym (c .before .before .block-at .ensures) 
 pub voice-size-spec : {M : Type 1} → statement M
 voice-size-spec =
     tie.close
-    (tie.spec (search needs) (search needs) (search needs) (search needs) (search needs) returns returns-2 returns-3 returns-4)
+    (tie.spec (search needs) (search needs) (search needs) (search needs) (search needs) returns returns-2 returns-3
+    returns-4)
