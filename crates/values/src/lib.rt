@@ -95,10 +95,11 @@ pub fn values_of(r: Record, before: State) -> Values
     ensures { λ v. ⌜ v ≡ valuesOf r before ⌝ }
 {
     let field = r.too_large();
+    let sp = r.sp;
     if field != 0 {
         return refused_values(Outcome::TooLarge(field), before);
     }
-    if r.sp != 0 {
+    if sp != 0 {
         return refused_values(Outcome::Expansion, before);
     }
     heard_values(r, before)

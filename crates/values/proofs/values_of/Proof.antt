@@ -13,7 +13,7 @@ returns c =
 
 returns-2 : tie.Need-returns-2
 returns-2 c =
-    let one = c .before .before .before in
+    let one = c .before .before in
     let s = one .before in
     expansion-told (s .before .args .r) (s .before .args .before) (s .too-large .ensures) (one .if1 .left)
     (c .before .if2 .taken)
@@ -21,7 +21,7 @@ returns-2 c =
 
 returns-3 : tie.Need-returns-3
 returns-3 c =
-    let one = c .before .before .before in
+    let one = c .before .before in
     let s = one .before in
     heard-told (s .before .args .r) (s .before .args .before) (s .too-large .ensures) (one .if1 .left)
     (c .before .if2 .left)
