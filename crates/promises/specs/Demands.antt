@@ -7,7 +7,7 @@ use Rattle.promises.specs.Refused.{ReaderRefuses, WriterRefuses, Refused
 use Rattle.promises.specs.Repairs.{FifteenPlaces, CleanChangesNothing, ParityHitChangesNothing, DataHitInvertsOne, TwoNeverMended, UnguardedUnseen, ThreeUnseen}
 use Rattle.promises.specs.Boundary.{PairsHoldRecord, ReadTells, WriteTells, BoundaryReadsBack}
 use Rattle.promises.specs.Values.{NearestEntry, GainsComeBack, CgMirrored, DelaysRise, EachByteOnce, DelaysComeBack, FixedWindows, GainsHeard, DelaysHeard, Averaged, FirstAveraged, StateHolds, MarkIsLowest, Ternary, CodesOverlap, DrawsWrap, DrawsAtPositions}
-use Rattle.promises.specs.Numbers.{ReaderNumbers, WriterNumbers, HearingNumbers, DelayNumbers, CodeNumbers, GainNumbers, RecordingNumbers, ReadResultNumbers, WriteResultNumbers}
+use Rattle.promises.specs.RefusalNumbers.{ReaderNumbers, WriterNumbers, HearingNumbers, DelayNumbers, CodeNumbers, GainNumbers, RecordingNumbers, ReadResultNumbers, WriteResultNumbers}
 use Rattle.promises.specs.Rule.{LowestFirst, RefusedExactly, SoundExactly}
 use Rattle.promises.specs.Made.{MadeIsSound, SoundIsMade, NoTwo}
 use Rattle.promises.specs.Parts.{VoiceBlocksStand, FramesAreAll, FramesAreLong, FramesFit, EndCounts, RepairsCounted, BreaksCounted, RefusedHasNone, EmptyRefused}

@@ -45,7 +45,7 @@ use Rattle.gateway.specs.Pairs.{recordIn}
 use Rattle.gateway.specs.Results.{refused, readResult, writeResult}
 use Rattle.promises.specs.Refused.{WriterGives, WriterRefuses, HearingGives, HearingRefuses, CodingGives, DelaysRefuse, CodeGives, CodeRefuses}
 use Rattle.promises.specs.Rule.{Given}
-use Rattle.promises.specs.Numbers.{ReaderTable, read-length, read-frame, ReaderNumbers, ReadResults, c-read-length, c-read-frame, ReadResultNumbers, WriteResults, c-write-length, c-write-index, c-write-fall, c-write-expansion, c-write-frame, WriteResultNumbers, WriterTable, write-length, write-index, write-fall, write-expansion, write-frame, WriterNumbers, HearingTable, hear-index, hear-expansion, hear-values, HearingNumbers, DelayTable, delay-unlisted, delay-outside, delay-codes, DelayNumbers, CodeTable, code-length, code-index, code-elements, CodeNumbers, GainTable, gain-index, gain-entry, GainNumbers, RecordingTable, too-long, header-cut, past-end, wrong-size, unknown-kind, out-of-turn, end-missing, wrong-count, extra, sound, RecordingNumbers}
+use Rattle.promises.specs.RefusalNumbers.{ReaderTable, read-length, read-frame, ReaderNumbers, ReadResults, c-read-length, c-read-frame, ReadResultNumbers, WriteResults, c-write-length, c-write-index, c-write-fall, c-write-expansion, c-write-frame, WriteResultNumbers, WriterTable, write-length, write-index, write-fall, write-expansion, write-frame, WriterNumbers, HearingTable, hear-index, hear-expansion, hear-values, HearingNumbers, DelayTable, delay-unlisted, delay-outside, delay-codes, DelayNumbers, CodeTable, code-length, code-index, code-elements, CodeNumbers, GainTable, gain-index, gain-entry, GainNumbers, RecordingTable, too-long, header-cut, past-end, wrong-size, unknown-kind, out-of-turn, end-missing, wrong-count, extra, sound, RecordingNumbers}
 use Rattle.promises.proofs.Refused.{writer-refuses, hearing-refuses, delays-refuse, code-refuses}
 use Rattle.promises.proofs.Boundary.{read-result-is, result-is}
 use Rattle.promises.proofs.Rule.{refused-exactly, sound-exactly}
