@@ -7,7 +7,7 @@ use Rattle.promises.proofs.Frames as frames
 use Rattle.promises.proofs.Functions as functions
 use Rattle.promises.proofs.Worked as worked
 use Rattle.promises.proofs.Refused as refused
-use Rattle.promises.proofs.Numbers as numbers
+use Rattle.promises.proofs.RefusalNumbers as numbers
 use Rattle.promises.proofs.Repairs as repairs
 use Rattle.promises.proofs.Values as values
 use Rattle.promises.proofs.Boundary as boundary

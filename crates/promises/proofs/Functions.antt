@@ -10,7 +10,7 @@ use Rattle.frame.specs.declared.Reading.{Reading}
 use Rattle.frame.specs.declared.Written.{Written}
 use Rattle.frame.specs.declared.Written.the-variants as Written
 use Rattle.frame.proofs.Answered.{accepted-only, left}
-use Rattle.promises.specs.Frames.{Shaped, ReadsBack, WritesBack, SameBits, Made, OfTheFlips, DamageAlone, dataBit}
+use Rattle.promises.specs.Frames.{Shaped, ReadsBack, WritesBack, SameBits, Made, OfTheFlips, DamageAlone, dataBitOf}
 use Rattle.promises.specs.Frames.{OneMended, TwoReported, OneFrame}
 use Rattle.promises.specs.Functions.{Answers, Leaves, WriteThenRead, ReadThenWrite, RepairByDamage, OneFlip}
 use Rattle.promises.specs.Functions.{TwoFlips, NoTwoFrames}
@@ -94,7 +94,7 @@ repair-by-damage r w e alone damaged d =
 pub one-flip : OneFlip
 unfolding OneFlip OneMended
 one-flip r w e alone damaged d most n held =
-    ap (λ (x : Reading). dataBit (x .indices) n) (answers-is (d .reads-damaged))
+    ap (λ (x : Reading). dataBitOf (x .indices) n) (answers-is (d .reads-damaged))
     ∙ one-mended r w e (made (d .shaped) (d .leaves)) (d .flips) most n held
 
 pub two-flips : TwoFlips

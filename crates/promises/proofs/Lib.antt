@@ -9,5 +9,5 @@ pub mod Rule
 pub mod Parts
 pub mod Running
 pub mod Made
-pub mod Numbers
+pub mod RefusalNumbers
 pub mod Demands

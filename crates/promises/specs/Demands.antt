@@ -13,9 +13,9 @@ use Rattle.promises.specs.Values.{NearestEntry, GainsComeBack, CgMirrore
 use Rattle.promises.specs.Values.{DelaysComeBack, FixedWindows, DelaysHeard, LspsHeard, MarkHeard, MarkIsLowest}
 use Rattle.promises.specs.Values.{Averaged, FirstAveraged, FreshNotBegun, StateHolds, Ternary, CodesOverlap}
 use Rattle.promises.specs.Values.{DrawsWrap, DrawsAtPositions}
-use Rattle.promises.specs.Numbers.{WriterNumbers, HearingNumbers, HertzNumbers, MeaningNumbers, DelayNumbers}
-use Rattle.promises.specs.Numbers.{CodeNumbers, GainNumbers, RecordingNumbers, ReaderNumbers, ReadResultNumbers}
-use Rattle.promises.specs.Numbers.{WriteResultNumbers}
+use Rattle.promises.specs.RefusalNumbers.{ReaderNumbers, WriterNumbers, HearingNumbers, DelayNumbers, CodeNumbers}
+use Rattle.promises.specs.RefusalNumbers.{GainNumbers, RecordingNumbers, ReadResultNumbers, WriteResultNumbers}
+use Rattle.promises.specs.RefusalNumbers.{HertzNumbers, MeaningNumbers}
 use Rattle.promises.specs.Rule.{LowestFirst, RefusedExactly, RefusedKeeps, SoundExactly}
 use Rattle.promises.specs.Made.{MadeIsSound, SoundIsMade, NoTwo}
 use Rattle.promises.specs.Parts.{VoiceBlocksStand, NoSuchBlock, FramesAreAll, FramesAreLong, FramesFit, EndCounts}

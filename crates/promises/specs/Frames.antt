@@ -80,8 +80,8 @@ pub record DataBit (n : ℕ) : Type 0 where
   pub held : fieldOf (guardedName n) ≡ 0 → ⊥
 
 -- the guarded data bit of number n, in a record
-abbrev pub dataBit : Record → ℕ → ℕ
-dataBit r n = bit (indexOf r (fieldOf (guardedName n))) (bitOf (guardedName n))
+abbrev pub dataBitOf : Record → ℕ → ℕ
+dataBitOf r n = bit (indexOf r (fieldOf (guardedName n))) (bitOf (guardedName n))
 
 -- the guarded place of number n is flipped, or not
 abbrev pub Flipped : List ℕ → ℕ → Type 0
@@ -109,7 +109,7 @@ pub record ExactlyTwo (e : List ℕ) (m n : ℕ) : Type 0 where
 unfoldable pub OneMended : Type 0
 OneMended =
     (r : Record) (w e : List ℕ) → Made r w → Eighteen e → AtMostOne e
-    → (n : ℕ) → DataBit n → dataBit (readingOf (flipped w e) .indices) n ≡ dataBit r n
+    → (n : ℕ) → DataBit n → dataBitOf (readingOf (flipped w e) .indices) n ≡ dataBitOf r n
 
 -- "Two are always reported."
 unfoldable pub TwoReported : Type 0

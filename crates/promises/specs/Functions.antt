@@ -19,7 +19,7 @@ use Rattle.frame.proofs.read.Kinds as read
 use Rattle.frame.proofs.read.Reads as read-reads
 use Rattle.frame.proofs.write.Kinds as write
 use Rattle.frame.proofs.write.Reads as write-reads
-use Rattle.promises.specs.Frames.{Shaped, Eighteen, flipped, OfTheFlips, DataBit, dataBit, AtMostOne, ExactlyTwo}
+use Rattle.promises.specs.Frames.{Shaped, Eighteen, flipped, OfTheFlips, DataBit, dataBitOf, AtMostOne, ExactlyTwo}
 
 -- `read`, lent the bytes s, may answer d
 pub record Answers (s : List ℕ) (d : Reading) : Type 0 where
@@ -71,7 +71,7 @@ RepairByDamage =
 unfoldable pub OneFlip : Type 0
 OneFlip =
     (r : Record) (w e : List ℕ) (alone damaged : Reading) → Damaged r w e alone damaged → AtMostOne e
-    → (n : ℕ) → DataBit n → dataBit (damaged .indices) n ≡ dataBit r n
+    → (n : ℕ) → DataBit n → dataBitOf (damaged .indices) n ≡ dataBitOf r n
 
 -- with two flipped the number is not 0
 unfoldable pub TwoFlips : Type 0

@@ -52,18 +52,19 @@ use Rattle.promises.specs.Refused.{WriterGives, WriterRefuses, HearingGi
 use Rattle.promises.specs.Refused.{HertzRefuses, MeaningGives, MeaningRefuses, CodingGives, DelaysRefuse}
 use Rattle.promises.specs.Refused.{CodeGives, CodeRefuses}
 use Rattle.promises.specs.Rule.{Given}
-use Rattle.promises.specs.Numbers.{WriterTable, write-length, write-index, write-fall, write-expansion}
-use Rattle.promises.specs.Numbers.{write-frame, WriterNumbers, HearingTable, hear-index, hear-expansion}
-use Rattle.promises.specs.Numbers.{hear-values, HearingNumbers, HertzTable, hertz-index, hertz-values}
-use Rattle.promises.specs.Numbers.{HertzNumbers, MeaningTable, meaning-index, meaning-delays, MeaningNumbers}
-use Rattle.promises.specs.Numbers.{DelayTable, delay-unlisted, delay-outside, delay-codes, DelayNumbers}
-use Rattle.promises.specs.Numbers.{CodeTable, code-length, code-index, code-elements, CodeNumbers, GainTable}
-use Rattle.promises.specs.Numbers.{gain-index, gain-entry, GainNumbers, RecordingTable, too-long, header-cut}
-use Rattle.promises.specs.Numbers.{past-end, wrong-size, unknown-kind, out-of-turn, end-missing, wrong-count}
-use Rattle.promises.specs.Numbers.{extra, sound, RecordingNumbers, ReaderTable, read-length, read-frame}
-use Rattle.promises.specs.Numbers.{ReaderNumbers, ReadResults, c-read-length, c-read-frame, ReadResultNumbers}
-use Rattle.promises.specs.Numbers.{WriteResults, c-write-length, c-write-index, c-write-fall, c-write-expansion}
-use Rattle.promises.specs.Numbers.{c-write-frame, WriteResultNumbers}
+use Rattle.promises.specs.RefusalNumbers.{ReaderTable, read-length, read-frame, ReaderNumbers, ReadResults}
+use Rattle.promises.specs.RefusalNumbers.{c-read-length, c-read-frame, ReadResultNumbers, WriteResults}
+use Rattle.promises.specs.RefusalNumbers.{c-write-length, c-write-index, c-write-fall, c-write-expansion}
+use Rattle.promises.specs.RefusalNumbers.{c-write-frame, WriteResultNumbers, WriterTable, write-length}
+use Rattle.promises.specs.RefusalNumbers.{write-index, write-fall, write-expansion, write-frame, WriterNumbers}
+use Rattle.promises.specs.RefusalNumbers.{HearingTable, hear-index, hear-expansion, hear-values, HearingNumbers}
+use Rattle.promises.specs.RefusalNumbers.{DelayTable, delay-unlisted, delay-outside, delay-codes, DelayNumbers}
+use Rattle.promises.specs.RefusalNumbers.{CodeTable, code-length, code-index, code-elements, CodeNumbers}
+use Rattle.promises.specs.RefusalNumbers.{GainTable, gain-index, gain-entry, GainNumbers, RecordingTable}
+use Rattle.promises.specs.RefusalNumbers.{too-long, header-cut, past-end, wrong-size, unknown-kind, out-of-turn}
+use Rattle.promises.specs.RefusalNumbers.{end-missing, wrong-count, extra, sound, RecordingNumbers}
+use Rattle.promises.specs.RefusalNumbers.{HertzTable, hertz-index, hertz-values, HertzNumbers, MeaningTable}
+use Rattle.promises.specs.RefusalNumbers.{meaning-index, meaning-delays, MeaningNumbers}
 use Rattle.promises.proofs.Refused.{writer-refuses, hearing-refuses, hertz-refuses, meaning-refuses}
 use Rattle.promises.proofs.Refused.{delays-refuse, code-refuses}
 use Rattle.promises.proofs.Boundary.{read-result-is, result-is}
