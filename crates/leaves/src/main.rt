@@ -1,5 +1,6 @@
-// Runs the leaf functions on the cases that stand on standard input and prints a number for the answer to each; or, for a benchmark, goes
-// through them many times and prints the sum alone. outside/CASES.md says how a case is laid out and what its number is.
+// Runs the leaf functions on the cases that stand on standard input and prints a number for the answer to each; or, for
+// a benchmark, goes through them many times and prints the sum alone. outside/CASES.md says how a case is laid out and
+// what its number is.
 mod case;
 mod code;
 mod delay;
@@ -21,7 +22,8 @@ fn main() {
     }
 }
 
-// The first four bytes tell how many rounds more there are than one, and each case is printed where there are none. Last is the sum.
+// The first four bytes tell how many rounds more there are than one, and each case is printed where there are none.
+// Last is the sum.
 fn run(s: &[u8])
     requires { ⌜ length (now s) ≤ 65536 ⌝ }
 {
@@ -35,7 +37,8 @@ fn run(s: &[u8])
     print(sum);
 }
 
-// Goes through the cases once: each has a kind, how many bytes follow, and those. Answers the sum with what they add to it.
+// Goes through the cases once: each has a kind, how many bytes follow, and those. Answers the sum with what they add to
+// it.
 fn through(s: &[u8], before: u64, printing: bool) -> u64
     requires { ⌜ length (now s) ≤ 65536 ⌝ }
 {

@@ -1,5 +1,4 @@
 pub mod Laid
-pub mod Wrote
 pub mod Decimal
 pub mod Turns
 pub mod Worked

@@ -1,7 +1,6 @@
 -- A text laid into a buffer.
-use mathlib.Core.Path.{_≡_}
 use mathlib.Core.List.{List, _++_}
-use Prim.Native.Nat.{ℕ, _+_, _-_, _≤_, min}
+use Prim.Native.Nat.{ℕ, _+_, _-_, min}
 use lib.ListN.{length, take, drop}
 
 -- the buffer o with the text t laid at a position: as much of t as there is room for, and all else as it was
@@ -11,9 +10,3 @@ laid o at t = take at o ++ take (length o - at) t ++ drop (at + length t) o
 -- the position after the text, held at the buffer's length
 abbrev pub after : List ℕ → ℕ → List ℕ → ℕ
 after o at t = min (at + length t) (length o)
-
--- o′ is o with all of t laid at a position, and at′ is the position after it
-pub record Wrote (o : List ℕ) (at : ℕ) (t o′ : List ℕ) (at′ : ℕ) : Type 0 where
-  pub whole : o′ ≡ laid o at t
-  pub next : at′ ≡ at + length t
-  pub fits : at + length t ≤ length o

@@ -15,7 +15,8 @@ array-share-prefix-cases c =
 
 slice-aggregate-run : tie.Need-slice-aggregate-run
 slice-aggregate-run c =
-    sym (length-take-le _ _ (read-within _ _ _ (c .before .before .before .before .before .read-all .ensures) (c .before .before .n .given .1)))
+    sym (length-take-le _ _ (read-within _ _ _ (c .before .before .before .before .before .read-all .ensures)
+    (c .before .before .n .given .1)))
 
 run-requires : tie.Need-run-requires
 run-requires c κs =
@@ -25,5 +26,6 @@ run-requires c κs =
 pub main-spec : {M : Type 1} → statement M
 main-spec =
     tie.close
-    (tie.spec (search needs) (λ c κs. tt) (search needs) (search needs) array-share-prefix-cases slice-aggregate-run run-requires
+    (tie.spec (search needs) (λ c κs. tt) (search needs) (search needs) array-share-prefix-cases slice-aggregate-run
+    run-requires
     (λ c. tt) (λ c. tt))
