@@ -9,24 +9,23 @@ mod lsps;
 mod number;
 mod room;
 
-use input::Input;
+use libc::STDIN_FILENO;
 use libc::STDOUT_FILENO;
 ghost use Prim.Native.Nat.{_≤_};
 ghost use lib.ListN.{length};
 
 fn main() {
-    let mut cases = [0u8; 65536];
-    match input::read_all(&mut cases) {
-        Input::Failed => {}
-        Input::Bytes(n) => run(&cases[..n]),
-    }
+    let mut cases = io::large_buffer();
+    let n = io::read_full(STDIN_FILENO, &mut cases);
+    run(&cases[..n]);
 }
 
-// The first four bytes tell how many rounds more there are than one, and each case is printed where there are none.
-// Last is the sum.
-fn run(s: &[u8])
-    requires { ⌜ length (now s) ≤ 65536 ⌝ }
-{
+// The first four bytes tell how many rounds more there are than one, and each case is printed where there are none. Last
+// is the sum.
+fn run(s: &[u8]) {
+    if 65536 < s.len() {
+        return;
+    }
     let more = case::word(s, 0);
     let mut sum = through(s, 0, more == 0);
     let mut r = 0;
