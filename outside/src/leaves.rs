@@ -71,14 +71,17 @@ fn answer(kind: u8, case: &[u8]) -> u64 {
         b'q' => Ok(gains::nearest_pg(gain).into()),
         b'm' => meaning(std::array::from_fn(|n| short(case, n))).map(packed),
         b's' => delays::codes(std::array::from_fn(|n| word(case, 2 * n))).map(packed),
-        b'l' => averages(ten(case, 0), ten(case, 10)),
+        b'l' => Ok(averages(ten(case, 0), ten(case, 10))),
         b'e' => Ok(code(short(case, 0), short(case, 1).into())),
         b'g' => Ok(draws(short(case, 0), short(case, 1), short(case, 2))),
         _ => Ok(text(kind, case)),
     };
-    told.unwrap_or_else(|Refusal { number, tells }| {
-        9_000_000_000_000_000_000 + 100_000 * u64::from(number) + u64::from(tells)
-    })
+    told.unwrap_or_else(refused)
+}
+
+/// The number of a refusal.
+fn refused(Refusal { number, tells }: Refusal) -> u64 {
+    9_000_000_000_000_000_000 + 100_000 * u64::from(number) + u64::from(tells)
 }
 
 /// How far a number is above the least one of 32 bits.
@@ -102,7 +105,7 @@ fn packed(four: [u16; 4]) -> u64 {
 /// Many numbers as one.
 fn as_one(start: u64, all: impl IntoIterator<Item = u64>) -> u64 {
     all.into_iter()
-        .fold(start, |sum, n| (31 * sum + n % MANY) % MANY)
+        .fold(start, |sum, n| (31 * (sum % MANY) + n % MANY) % MANY)
 }
 
 /// The delays that four codes mean, or the lowest subframe whose code is too large.
@@ -115,21 +118,24 @@ fn meaning(codes: [u16; 4]) -> Result<[u16; 4], Refusal> {
     Ok(delays::delays(codes))
 }
 
-/// The mark and the averages of the present indices after the previous values, or the lowest field that is too large.
-fn averages(previous: [u16; 10], indices: [u16; 10]) -> Result<u64, Refusal> {
-    for (field, (index, width)) in (1..).zip(indices.into_iter().zip(WIDTHS)) {
-        if index >> width != 0 {
-            return Err(Refusal::new(2, field));
+/// The mark of the present indices, or the refusal with the lowest field that is too large, and the averages after the
+/// previous values. Where an index is too large all the Hz are 0.
+fn averages(previous: [u16; 10], indices: [u16; 10]) -> u64 {
+    let mut fields = (1..).zip(indices.into_iter().zip(WIDTHS));
+    let past = fields.find(|(_, (index, width))| index >> width != 0);
+    let (first, hz) = match past {
+        Some((field, _)) => (refused(Refusal::new(2, field)), [0; 10]),
+        None => {
+            let hz = lsp::frequencies(&indices);
+            (lsp::order_mark(&hz).into(), hz)
         }
-    }
-    let hz = lsp::frequencies(&indices);
-    let averages = State {
+    };
+    let state = State {
         hz: previous,
         fresh: false,
-    }
-    .averages(&hz);
-    let all = averages.as_flattened().iter().map(|&n| n.into());
-    Ok(as_one(lsp::order_mark(&hz).into(), all))
+    };
+    let averages = state.averages(&hz);
+    as_one(first, averages.as_flattened().iter().map(|&n| n.into()))
 }
 
 /// The refusal of a code and what a buffer holds after it, ones before.
@@ -388,7 +394,6 @@ mod tests {
         };
         assert!(refused(2, 0));
         assert!((1..=4).all(|subframe| refused(2, subframe) && refused(4, subframe)));
-        assert!((1..=10).all(|field| refused(2, field)));
         assert!(refused(5, 2) && refused(5, 4));
     }
 

@@ -1,4 +1,5 @@
-// Frames and records through the C boundary, with a buffer of any length up to sixty, which holds 170 everywhere before.
+// Frames and records through the C boundary, with a buffer of any length up to sixty, which holds 170 everywhere
+// before.
 use crate::say;
 
 // Reads a frame into a buffer of so many bytes: the result, and what the buffer holds.

@@ -1,5 +1,6 @@
-// Runs the C boundary's two functions, and the functions of recordings and values at places that no recording leads to, on the cases that
-// stand on standard input, and prints what each answers. outside/CASES.md says how a case is laid out and what is printed of it.
+// Runs the C boundary's two functions, and the functions of recordings and values at places that no recording leads to,
+// on the cases that stand on standard input, and prints what each answers. outside/CASES.md says how a case is laid out
+// and what is printed of it.
 mod boundary;
 mod places;
 mod say;

@@ -87,8 +87,8 @@ fn passed(pass: Pass) {
     say::number(counts.breaks as usize);
 }
 
-// The values of a frame's record with one index or more set to the number, by the length of what is given, after the state that the
-// record itself leaves.
+// The values of a frame's record with one index or more set to the number, by the length of what is given, after the
+// state that the record itself leaves.
 pub fn values(s: &[u8], n: usize) {
     let reading = frame::read(s);
     let indices = reading.indices;

@@ -1,5 +1,5 @@
-// Standard input, read into a lent buffer.
-// What is read is the operating system's to say: no contract can, and this one says only that the count lies within the buffer.
+// Standard input, read into a lent buffer. What is read is the operating system's to say: no contract can, and this one
+// says only that the count lies within the buffer.
 use libc::STDIN_FILENO;
 ghost use Prim.Native.Nat.{_≤_};
 ghost use lib.ListN.{length};

@@ -6,7 +6,8 @@ use codebook::Generator;
 use codebook::Written;
 use std::num::wrapping_add_u16;
 
-// An index and the length of a buffer that holds 1 everywhere before: the refusal and the buffer's elements as one number.
+// An index and the length of a buffer that holds 1 everywhere before: the refusal and the buffer's elements as one
+// number.
 pub fn number(case: &[u8]) -> u64 {
     let mut buffer = ones();
     let refusal = written_in(case, &mut buffer);

@@ -3,19 +3,17 @@ use crate::case;
 use crate::number;
 use lsp::Verdict;
 
-// Ten previous LSPs in Hz and ten present indices: the mark and the averages, or the refusal.
+// Ten previous LSPs in Hz and ten present indices: the mark or the refusal, and the averages of the Hz that are answered.
 pub fn number(case: &[u8]) -> u64 {
     let previous = case::ten(case, 0);
     let present = lsp::in_hertz(case::ten(case, 10));
     let verdict = present.verdict;
     let hz = present.hz;
-    match verdict {
+    let first = match verdict {
         Verdict::TooLarge(field) => number::refused(2, (field % 65536) as u16),
-        Verdict::Within => {
-            let mark = (lsp::order_mark(hz) % 65536) as u64;
-            as_one(lsp::averages(previous, hz), mark)
-        }
-    }
+        Verdict::Within => (lsp::order_mark(hz) % 65536) as u64,
+    };
+    as_one(lsp::averages(previous, hz), first)
 }
 
 // Forty numbers as one.

@@ -1,5 +1,6 @@
-// Runs the leaf functions on the cases that stand on standard input and prints a number for the answer to each; or, for a benchmark, goes
-// through them many times and prints the sum alone. outside/CASES.md says how a case is laid out and what its number is.
+// Runs the leaf functions on the cases that stand on standard input and prints a number for the answer to each; or, for
+// a benchmark, goes through them many times and prints the sum alone. outside/CASES.md says how a case is laid out and
+// what its number is.
 mod case;
 mod code;
 mod delay;
@@ -8,23 +9,23 @@ mod lsps;
 mod number;
 mod room;
 
-use input::Input;
+use libc::STDIN_FILENO;
 use libc::STDOUT_FILENO;
 ghost use Prim.Native.Nat.{_≤_};
 ghost use lib.ListN.{length};
 
 fn main() {
-    let mut cases = [0u8; 65536];
-    match input::read_all(&mut cases) {
-        Input::Failed => {}
-        Input::Bytes(n) => run(&cases[..n]),
-    }
+    let mut cases = io::large_buffer();
+    let n = io::read_full(STDIN_FILENO, &mut cases);
+    run(&cases[..n]);
 }
 
-// The first four bytes tell how many rounds more there are than one, and each case is printed where there are none. Last is the sum.
-fn run(s: &[u8])
-    requires { ⌜ length (now s) ≤ 65536 ⌝ }
-{
+// The first four bytes tell how many rounds more there are than one, and each case is printed where there are none. Last
+// is the sum.
+fn run(s: &[u8]) {
+    if 65536 < s.len() {
+        return;
+    }
     let more = case::word(s, 0);
     let mut sum = through(s, 0, more == 0);
     let mut r = 0;
@@ -35,7 +36,8 @@ fn run(s: &[u8])
     print(sum);
 }
 
-// Goes through the cases once: each has a kind, how many bytes follow, and those. Answers the sum with what they add to it.
+// Goes through the cases once: each has a kind, how many bytes follow, and those. Answers the sum with what they add to
+// it.
 fn through(s: &[u8], before: u64, printing: bool) -> u64
     requires { ⌜ length (now s) ≤ 65536 ⌝ }
 {

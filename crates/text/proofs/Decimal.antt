@@ -32,7 +32,8 @@ own : (k n : ℕ) → 0 < n → n ≤ k → digitsIn k n ≡ decimal n
 unfolding decimal digitsIn
 own k zero h l = absurd (omega arith)
 own zero (suc n) h l = absurd (omega arith)
-own (suc k) (suc n) h l = ap (λ (s : List ℕ). s ++ (digit (suc n % 10) ∷ [])) (enough k (suc n) (suc n / 10) (omega arith) (omega arith))
+own (suc k) (suc n) h l = ap (λ (s : List ℕ). s ++ (digit (suc n % 10) ∷ []))
+    (enough k (suc n) (suc n / 10) (omega arith) (omega arith))
 
 -- a number below 10 is its digit
 pub decimal-one : (n : ℕ) → n < 10 → decimal n ≡ digit n ∷ []
@@ -71,7 +72,8 @@ decimal-longer n h = ap length (decimal-more n h) ∙ length-append (decimal (n 
 
 -- a number has a digit
 pub decimal-some : (n : ℕ) → 1 ≤ length (decimal n)
-decimal-some = by-digits (λ n. 1 ≤ length (decimal n)) (λ n h. omega (arith, ap length (decimal-one n h))) (λ n h p. omega (arith, decimal-longer n h))
+decimal-some = by-digits (λ n. 1 ≤ length (decimal n)) (λ n h. omega (arith, ap length (decimal-one n h)))
+    (λ n h p. omega (arith, decimal-longer n h))
 
 -- and at most d, where it is below the power of ten
 pub decimal-most : (n d : ℕ) → 1 ≤ d → n < 10 ^ d → length (decimal n) ≤ d
@@ -108,7 +110,8 @@ decimal-digits = by-digits (λ n. (i : ℕ) → i < length (decimal n) → IsDig
         go : Dec (i < length (decimal (n / 10))) → IsDigit (getD (decimal n) i 0)
         go (yes m) =
             let e : getD (decimal n) i 0 ≡ getD (decimal (n / 10)) i 0
-            = ap (λ (s : List ℕ). getD s i 0) (decimal-more n h) ∙ List·getD-append (decimal (n / 10)) (digit (n % 10) ∷ []) 0 i m in
+            = ap (λ (s : List ℕ). getD s i 0) (decimal-more n h)
+            ∙ List·getD-append (decimal (n / 10)) (digit (n % 10) ∷ []) 0 i m in
             subst IsDigit (sym e) (rest i m)
         go (no m) =
             let e : getD (decimal n) i 0 ≡ digit (n % 10)
@@ -150,7 +153,8 @@ decimal-value = by-digits (λ n. valueFrom 0 (decimal n) ≡ n) one more
     one n h = ap (valueFrom 0) (decimal-one n h) ∙ omega arith
 
     more : (n : ℕ) → 10 ≤ n → valueFrom 0 (decimal (n / 10)) ≡ n / 10 → valueFrom 0 (decimal n) ≡ n
-    more n h rest = ap (valueFrom 0) (decimal-more n h) ∙ value-last 0 (decimal (n / 10)) (digit (n % 10)) ∙ omega (arith, rest)
+    more n h rest = ap (valueFrom 0) (decimal-more n h) ∙ value-last 0 (decimal (n / 10)) (digit (n % 10))
+        ∙ omega (arith, rest)
 
 -- so two numbers with the same text are the same number
 pub decimal-injective : (m n : ℕ) → decimal m ≡ decimal n → m ≡ n
@@ -169,9 +173,11 @@ decimal-last = by-digits (λ n. decimal n ≡ lastDigits (length (decimal n)) n)
     one : (n : ℕ) → n < 10 → decimal n ≡ lastDigits (length (decimal n)) n
     one n h =
         let e : n ≡ n % 10 = omega arith in
-        decimal-one n h ∙ ap (λ (d : ℕ). digit d ∷ []) e ∙ ap (λ (s : List ℕ). lastDigits (length s) n) (sym (decimal-one n h))
+        decimal-one n h ∙ ap (λ (d : ℕ). digit d ∷ []) e
+        ∙ ap (λ (s : List ℕ). lastDigits (length s) n) (sym (decimal-one n h))
 
-    more : (n : ℕ) → 10 ≤ n → decimal (n / 10) ≡ lastDigits (length (decimal (n / 10))) (n / 10) → decimal n ≡ lastDigits (length (decimal n)) n
+    more : (n : ℕ) → 10 ≤ n → decimal (n / 10) ≡ lastDigits (length (decimal (n / 10))) (n / 10) → decimal n
+        ≡ lastDigits (length (decimal n)) n
     more n h rest =
         let e : suc (length (decimal (n / 10))) ≡ length (decimal n) = omega (arith, decimal-longer n h) in
         decimal-more n h ∙ ap (λ (s : List ℕ). s ++ (digit (n % 10) ∷ [])) rest ∙ ap (λ (k : ℕ). lastDigits k n) e
@@ -190,7 +196,11 @@ pub record Left (n i rest : ℕ) : Type 0 where
 
 -- at first all of them
 pub left-all : (n : ℕ) → Left n (length (decimal n)) n
-left-all n = record { upto = omega arith; first = take-all (length (decimal n)) (decimal n) (omega arith) ∙ decimal-last n }
+left-all n = record {
+  upto = omega arith;
+  first = take-all (length (decimal n)) (decimal n) (omega arith)
+      ∙ decimal-last n;
+}
 
 module _ {n i rest : ℕ} (j : ℕ) (e : i ≡ suc j) (p : Left n i rest) where
   -- their digits, the last by itself

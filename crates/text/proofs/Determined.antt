@@ -14,18 +14,22 @@ use Rattle.text.proofs.put_number.Reads as put-number-reads
 use Rattle.text.proofs.put_signed.Kinds as put-signed
 use Rattle.text.proofs.put_signed.Reads as put-signed-reads
 
-pub put-byte-determined : (κs : Lfts 1) (a : Dens κs put-byte.ps) (r₁ r₂ : resT put-byte.r κs .Denot) (x₁ x₂ : AtExit (endedOf 1 put-byte.ps put-byte.r) κs)
+pub put-byte-determined : (κs : Lfts 1) (a : Dens κs put-byte.ps) (r₁ r₂ : resT put-byte.r κs .Denot)
+    (x₁ x₂ : AtExit (endedOf 1 put-byte.ps put-byte.r) κs)
     → put-byte-reads.Post κs a r₁ x₁ → put-byte-reads.Post κs a r₂ x₂ → (r₁ ≡ r₂) × (now (x₁ .0) ≡ now (x₂ .0))
 put-byte-determined κs a r₁ r₂ x₁ x₂ p q = (p .0 ∙ sym (q .0), p .1 ∙ sym (q .1))
 
-pub put-word-determined : (κs : Lfts 2) (a : Dens κs put-word.ps) (r₁ r₂ : resT put-word.r κs .Denot) (x₁ x₂ : AtExit (endedOf 2 put-word.ps put-word.r) κs)
+pub put-word-determined : (κs : Lfts 2) (a : Dens κs put-word.ps) (r₁ r₂ : resT put-word.r κs .Denot)
+    (x₁ x₂ : AtExit (endedOf 2 put-word.ps put-word.r) κs)
     → put-word-reads.Post κs a r₁ x₁ → put-word-reads.Post κs a r₂ x₂ → (r₁ ≡ r₂) × (now (x₁ .0) ≡ now (x₂ .0))
 put-word-determined κs a r₁ r₂ x₁ x₂ p q = (p .0 ∙ sym (q .0), p .1 ∙ sym (q .1))
 
-pub put-number-determined : (κs : Lfts 1) (a : Dens κs put-number.ps) (r₁ r₂ : resT put-number.r κs .Denot) (x₁ x₂ : AtExit (endedOf 1 put-number.ps put-number.r) κs)
+pub put-number-determined : (κs : Lfts 1) (a : Dens κs put-number.ps) (r₁ r₂ : resT put-number.r κs .Denot)
+    (x₁ x₂ : AtExit (endedOf 1 put-number.ps put-number.r) κs)
     → put-number-reads.Post κs a r₁ x₁ → put-number-reads.Post κs a r₂ x₂ → (r₁ ≡ r₂) × (now (x₁ .0) ≡ now (x₂ .0))
 put-number-determined κs a r₁ r₂ x₁ x₂ p q = (p .0 ∙ sym (q .0), p .1 ∙ sym (q .1))
 
-pub put-signed-determined : (κs : Lfts 1) (a : Dens κs put-signed.ps) (r₁ r₂ : resT put-signed.r κs .Denot) (x₁ x₂ : AtExit (endedOf 1 put-signed.ps put-signed.r) κs)
+pub put-signed-determined : (κs : Lfts 1) (a : Dens κs put-signed.ps) (r₁ r₂ : resT put-signed.r κs .Denot)
+    (x₁ x₂ : AtExit (endedOf 1 put-signed.ps put-signed.r) κs)
     → put-signed-reads.Post κs a r₁ x₁ → put-signed-reads.Post κs a r₂ x₂ → (r₁ ≡ r₂) × (now (x₁ .0) ≡ now (x₂ .0))
 put-signed-determined κs a r₁ r₂ x₁ x₂ p q = (p .0 ∙ sym (q .0), p .1 ∙ sym (q .1))

@@ -1,4 +1,5 @@
--- What a buffer holds after a text was laid into it, place by place, and the laws that follow: nothing laid, one byte, one text after another.
+-- What a buffer holds after a text was laid into it, place by place, and the laws that follow: nothing laid, one byte,
+-- one text after another.
 -- Assumes nothing.
 use mathlib.Core.Path.{_≡_, _∙_, sym, refl, ap, ap₂}
 use mathlib.Core.List.{List, [], _∷_, _++_}
@@ -16,7 +17,8 @@ unfolding laid
 length-laid o at t = simp (length-append, length-take, length-drop) (omega arith)
 
 -- before the position stands what stood there
-pub laid-before : (o : List ℕ) (at : ℕ) (t : List ℕ) (k : ℕ) → k < at → k < length o → getD (laid o at t) k 0 ≡ getD o k 0
+pub laid-before : (o : List ℕ) (at : ℕ) (t : List ℕ) (k : ℕ) → k < at → k < length o → getD (laid o at t) k 0
+    ≡ getD o k 0
 unfolding laid
 laid-before o at t k h l =
     let first : k < length (take at o) = simp length-take (omega arith) in
@@ -38,10 +40,12 @@ laid-within o at t k h m l =
     ∙ getD-take (length o - at) t (k - at) 0 (omega arith)
 
 -- after the text stands what stood there
-pub laid-beyond : (o : List ℕ) (at : ℕ) (t : List ℕ) (k : ℕ) → at + length t ≤ k → k < length o → getD (laid o at t) k 0 ≡ getD o k 0
+pub laid-beyond : (o : List ℕ) (at : ℕ) (t : List ℕ) (k : ℕ) → at + length t ≤ k → k < length o
+    → getD (laid o at t) k 0 ≡ getD o k 0
 unfolding laid
 laid-beyond o at t k h l =
-    let front : length (take at o ++ take (length o - at) t) ≡ at + length t = simp (length-append, length-take) (omega arith) in
+    let front : length (take at o ++ take (length o - at) t)
+    ≡ at + length t = simp (length-append, length-take) (omega arith) in
     let whole : at + length t + (k - (at + length t)) ≡ k = omega arith in
     getD-second (take at o ++ take (length o - at) t) (drop (at + length t) o) k 0 (omega arith)
     ∙ ap (λ (i : ℕ). getD (drop (at + length t) o) (k - i) 0) front
@@ -55,7 +59,8 @@ pub laid-ext : (o : List ℕ) (at : ℕ) (t l : List ℕ) → length l ≡ lengt
     → ((k : ℕ) → at + length t ≤ k → k < length o → getD l k 0 ≡ getD o k 0)
     → l ≡ laid o at t
 laid-ext o at t l e before within beyond =
-    ext-getD 0 l (laid o at t) (e ∙ sym (length-laid o at t)) (λ k h. here k (omega arith) (decLt k at) (decLt k (at + length t)))
+    ext-getD 0 l (laid o at t) (e ∙ sym (length-laid o at t))
+    (λ k h. here k (omega arith) (decLt k at) (decLt k (at + length t)))
   where
     here : (k : ℕ) → k < length o → Dec (k < at) → Dec (k < at + length t) → getD l k 0 ≡ getD (laid o at t) k 0
     here k h (yes a) b = before k a h ∙ sym (laid-before o at t k a h)
@@ -74,7 +79,8 @@ laid-past o at t p =
 -- a text's first byte, stored before what follows it
 pub laid-cons : (o : List ℕ) (at b : ℕ) (t : List ℕ) → at < length o → set (laid o (at + 1) t) at b ≡ laid o at (b ∷ t)
 laid-cons o at b t p =
-    laid-ext o at (b ∷ t) (set (laid o (at + 1) t) at b) (length-set (laid o (at + 1) t) at b ∙ length-laid o (at + 1) t)
+    laid-ext o at (b ∷ t) (set (laid o (at + 1) t) at b)
+    (length-set (laid o (at + 1) t) at b ∙ length-laid o (at + 1) t)
     (λ k a h. other k (omega arith) ∙ laid-before o (at + 1) t k (omega arith) h)
     (λ k a c h. within k a c h (ℕ-discrete k at))
     (λ k a h. other k (omega arith) ∙ laid-beyond o (at + 1) t k (omega arith) h)
@@ -87,28 +93,33 @@ laid-cons o at b t p =
     within k a c h (yes e) =
         let z : k - at ≡ 0 = omega arith in
         let l : length (laid o (at + 1) t) ≡ length o = length-laid o (at + 1) t in
-        ap (λ (i : ℕ). getD (set (laid o (at + 1) t) at b) i 0) e ∙ getD-set-same (laid o (at + 1) t) at b 0 (omega arith)
+        ap (λ (i : ℕ). getD (set (laid o (at + 1) t) at b) i 0) e
+        ∙ getD-set-same (laid o (at + 1) t) at b 0 (omega arith)
         ∙ ap (λ (i : ℕ). getD (b ∷ t) i 0) (sym z)
     within k a c h (no e) =
         let z : k - at ≡ suc (k - (at + 1)) = omega (arith, e) in
-        other k e ∙ laid-within o (at + 1) t k (omega (arith, e)) (omega arith) h ∙ ap (λ (i : ℕ). getD (b ∷ t) i 0) (sym z)
+        other k e ∙ laid-within o (at + 1) t k (omega (arith, e)) (omega arith) h
+        ∙ ap (λ (i : ℕ). getD (b ∷ t) i 0) (sym z)
 
 -- one byte
 pub laid-one : (o : List ℕ) (at b : ℕ) → at < length o → set o at b ≡ laid o at (b ∷ [])
 laid-one o at b h = ap (λ (l : List ℕ). set l at b) (sym (laid-none o (at + 1))) ∙ laid-cons o at b [] h
 
 -- as much of a text as there is room for is laid as the text is
-pub laid-room : (o : List ℕ) (at : ℕ) (t : List ℕ) (n : ℕ) → min (length t) (length o - at) ≤ n → laid o at (take n t) ≡ laid o at t
+pub laid-room : (o : List ℕ) (at : ℕ) (t : List ℕ) (n : ℕ) → min (length t) (length o - at) ≤ n → laid o at (take n t)
+    ≡ laid o at t
 laid-room o at t n h =
     laid-ext o at t (laid o at (take n t)) (length-laid o at (take n t))
     (λ k a l. laid-before o at (take n t) k a l)
-    (λ k a b l. laid-within o at (take n t) k a (simp length-take (omega arith)) l ∙ getD-take n t (k - at) 0 (omega arith))
+    (λ k a b l. laid-within o at (take n t) k a (simp length-take (omega arith)) l
+    ∙ getD-take n t (k - at) 0 (omega arith))
     (λ k a l. laid-beyond o at (take n t) k (simp length-take (omega arith)) l)
 
 -- laying t and then u at the position after t is laying t ++ u, whether they fit or not
 pub laid-then : (o : List ℕ) (at : ℕ) (t u : List ℕ) → laid (laid o at t) (after o at t) u ≡ laid o at (t ++ u)
 laid-then o at t u =
-    laid-ext o at (t ++ u) (laid (laid o at t) (after o at t) u) (length-laid (laid o at t) (after o at t) u ∙ length-laid o at t)
+    laid-ext o at (t ++ u) (laid (laid o at t) (after o at t) u)
+    (length-laid (laid o at t) (after o at t) u ∙ length-laid o at t)
     (λ k a h. laid-before (laid o at t) (after o at t) u k (omega arith) (inside k h) ∙ laid-before o at t k a h)
     (λ k a b h. within k a b h (decLt k (at + length t)))
     (λ k a h. beyond k (simp length-append at a) h)
@@ -127,7 +138,8 @@ laid-then o at t u =
         laid-within (laid o at t) (after o at t) u k (omega arith) (omega arith) (inside k h)
         ∙ ap (λ (i : ℕ). getD u i 0) place ∙ sym (getD-second t u (k - at) 0 (omega arith))
 
-    beyond : (k : ℕ) → at + (length t + length u) ≤ k → k < length o → getD (laid (laid o at t) (after o at t) u) k 0 ≡ getD o k 0
+    beyond : (k : ℕ) → at + (length t + length u) ≤ k → k < length o → getD (laid (laid o at t) (after o at t) u) k 0
+        ≡ getD o k 0
     beyond k a h =
         laid-beyond (laid o at t) (after o at t) u k (omega arith) (inside k h) ∙ laid-beyond o at t k (omega arith) h
 
@@ -138,7 +150,8 @@ after-then o at t u =
     simp length-append (omega arith)
 
 -- what two puts ensure, one after the other, is what one put of both texts would
-pub put-then : (o : List ℕ) (at : ℕ) (t u : List ℕ) {o₁ o₂ : List ℕ} {at₁ at₂ : ℕ} → (at₁ ≡ after o at t) × (o₁ ≡ laid o at t) → (at₂ ≡ after o₁ at₁ u) × (o₂ ≡ laid o₁ at₁ u)
+pub put-then : (o : List ℕ) (at : ℕ) (t u : List ℕ) {o₁ o₂ : List ℕ} {at₁ at₂ : ℕ} → (at₁ ≡ after o at t)
+    × (o₁ ≡ laid o at t) → (at₂ ≡ after o₁ at₁ u) × (o₂ ≡ laid o₁ at₁ u)
     → (at₂ ≡ after o at (t ++ u)) × (o₂ ≡ laid o at (t ++ u))
 put-then o at t u p q = (
   q .0 ∙ ap₂ (λ (l : List ℕ) (k : ℕ). after l k u) (p .1) (p .0) ∙ after-then o at t u,

@@ -11,7 +11,8 @@ use lib.Seq.{take-suc, drop-cons, length-take-le}
 use Rattle.text.specs.Decimal.{decimal, digit}
 use Rattle.text.specs.Laid.{laid, after}
 use Rattle.text.proofs.Laid.{length-laid, laid-none, laid-past, laid-one, laid-cons, laid-room, laid-then}
-use Rattle.text.proofs.Decimal.{decimal-one, decimal-some, decimal-longer, decimal-most, Left, left-all, left-digit, left-less}
+use Rattle.text.proofs.Decimal.{decimal-one, decimal-some, decimal-longer, decimal-most, Left, left-all}
+use Rattle.text.proofs.Decimal.{left-digit, left-less}
 
 -- at a position past the end nothing is laid
 pub past : (o : List ℕ) (at : ℕ) (t : List ℕ) → length o ≤ at → (length o ≡ after o at t) × (o ≡ laid o at t)
@@ -29,7 +30,8 @@ pub record Words (o : List ℕ) (at : ℕ) (w : List ℕ) (size i : ℕ) (l : Li
   pub here : l ≡ laid o at (take i w)
 
 -- at the start none
-pub word-none : (o : List ℕ) (at : ℕ) (w : List ℕ) (size : ℕ) → at < length o → size ≡ min (length w) (length o - at) → Words o at w size 0 o
+pub word-none : (o : List ℕ) (at : ℕ) (w : List ℕ) (size : ℕ) → at < length o → size ≡ min (length w) (length o - at)
+    → Words o at w size 0 o
 word-none o at w size h e = record { starts = h; most = e; upto = omega arith; here = sym (laid-none o at) }
 
 module _ {o : List ℕ} {at : ℕ} {w : List ℕ} {size i : ℕ} {l : List ℕ} (p : Words o at w size i l) where
@@ -42,7 +44,8 @@ module _ {o : List ℕ} {at : ℕ} {w : List ℕ} {size i : ℕ} {l : List ℕ} 
   word-more h =
       let long : length (take i w) ≡ i = length-take-le i w (omega (arith, p .most)) in
       let place : at + i ≡ after o at (take i w) = omega (arith, p .most, p .starts) in
-      let room : at + i < length (laid o at (take i w)) = omega (arith, p .most, p .starts, length-laid o at (take i w)) in
+      let room : at + i < length (laid o at (take i w)) =
+      omega (arith, p .most, p .starts, length-laid o at (take i w)) in
       record {
         starts = p .starts;
         most = p .most;
@@ -98,7 +101,8 @@ pub record Numbers (o : List ℕ) (at n kept i rest : ℕ) (l : List ℕ) : Type
   pub here : l ≡ laid o (at + i) (drop i (decimal n))
 
 -- at the start none are passed over
-pub passed-none : (o : List ℕ) (at n kept i : ℕ) → at < length o → i ≡ length (decimal n) → kept ≡ min i (length o - at) → Passed o at n kept i n
+pub passed-none : (o : List ℕ) (at n kept i : ℕ) → at < length o → i ≡ length (decimal n) → kept
+    ≡ min i (length o - at) → Passed o at n kept i n
 passed-none o at n kept i h e k =
     record {
       starts = h;
@@ -108,13 +112,28 @@ passed-none o at n kept i h e k =
     }
 
 -- a turn passes over one
-pub passed-more : {o : List ℕ} {at n kept i rest : ℕ} (j : ℕ) → i ≡ suc j → Passed o at n kept i rest → kept < i → Passed o at n kept j (rest / 10)
-passed-more j e p h = record { starts = p .starts; size = p .size; downto = omega arith; left = left-less j e (p .left) }
+pub passed-more : {o : List ℕ} {at n kept i rest : ℕ} (j : ℕ) → i ≡ suc j → Passed o at n kept i rest → kept < i
+    → Passed o at n kept j (rest / 10)
+passed-more j e p h = record {
+  starts = p .starts;
+  size = p .size;
+  downto = omega arith;
+  left =
+      left-less j e (p .left);
+}
 
 -- where those with no room are passed over, none is laid yet
-pub number-none : {o : List ℕ} {at n kept i rest : ℕ} → Passed o at n kept i rest → i ≤ kept → Numbers o at n kept i rest o
+pub number-none : {o : List ℕ} {at n kept i rest : ℕ} → Passed o at n kept i rest → i ≤ kept
+    → Numbers o at n kept i rest o
 number-none {o} {at} {n} {kept} {i} {rest} p h =
-    record { starts = p .starts; size = p .size; downto = h; left = p .left; here = sym (none (decLe (length o) (at + i))) }
+    record {
+      starts = p .starts;
+      size = p .size;
+      downto = h;
+      left = p .left;
+      here =
+          sym (none (decLe (length o) (at + i)));
+    }
   where
     none : Dec (length o ≤ at + i) → laid o (at + i) (drop i (decimal n)) ≡ o
     none (yes a) = laid-past o (at + i) (drop i (decimal n)) a
@@ -138,7 +157,8 @@ module _ {o : List ℕ} {at n kept i rest : ℕ} {l : List ℕ} (p : Numbers o a
         left = left-less j e (p .left);
         here = ap (λ (s : List ℕ). set s (at + j) (digit (rest % 10))) (p .here)
             ∙ ap (λ (k : ℕ). set (laid o k (drop i (decimal n))) (at + j) (digit (rest % 10))) place
-            ∙ laid-cons o (at + j) (digit (rest % 10)) (drop i (decimal n)) (omega (arith, p .downto, p .size, p .starts))
+            ∙ laid-cons o (at + j) (digit (rest % 10)) (drop i (decimal n))
+            (omega (arith, p .downto, p .size, p .starts))
             ∙ ap (λ (b : ℕ). laid o (at + j) (b ∷ drop i (decimal n))) (sym (left-digit j e (p .left)))
             ∙ ap (λ (k : ℕ). laid o (at + j) (getD (decimal n) j 0 ∷ drop k (decimal n))) e
             ∙ ap (laid o (at + j)) (sym (drop-cons (decimal n) j 0 (omega (arith, p .left .upto))));
@@ -149,5 +169,6 @@ module _ {o : List ℕ} {at n kept i rest : ℕ} {l : List ℕ} (p : Numbers o a
   number-all e =
       let place : at + i ≡ at = omega arith in (
         omega (arith, p .size, p .starts),
-        p .here ∙ ap (λ (k : ℕ). laid o k (drop i (decimal n))) place ∙ ap (λ (k : ℕ). laid o at (drop k (decimal n))) e,
+        p .here ∙ ap (λ (k : ℕ). laid o k (drop i (decimal n))) place
+            ∙ ap (λ (k : ℕ). laid o at (drop k (decimal n))) e,
       )

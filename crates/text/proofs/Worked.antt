@@ -15,7 +15,8 @@ pub line-end : ascii "\n" ≡ 10 ∷ []
 line-end = refl
 
 -- 0, 10 and the largest number of 64 bits
-pub numbers : decimal 0 ++ ascii " " ++ decimal 10 ++ ascii " " ++ decimal 18446744073709551615 ≡ ascii "0 10 18446744073709551615"
+pub numbers : decimal 0 ++ ascii " " ++ decimal 10 ++ ascii " " ++ decimal 18446744073709551615
+    ≡ ascii "0 10 18446744073709551615"
 unfolding decimal digitsIn
 numbers = refl
 

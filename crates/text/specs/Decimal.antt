@@ -12,6 +12,7 @@ digitsIn zero n = []
 digitsIn (suc k) zero = []
 digitsIn (suc k) (suc n) = digitsIn k (suc n / 10) ++ (digit (suc n % 10) ∷ [])
 
--- n in decimal: the digits of n / 10, of which there are at most n, and then the last. So 0 is "0", and no other begins with a zero.
+-- n in decimal: the digits of n / 10, of which there are at most n, and then the last. So 0 is "0", and no other begins
+-- with a zero.
 unfoldable pub decimal : ℕ → List ℕ
 decimal n = digitsIn n (n / 10) ++ (digit (n % 10) ∷ [])

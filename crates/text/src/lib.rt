@@ -1,5 +1,5 @@
-// Words and decimal numbers laid into a lent buffer, one after the other.
-// Each put answers the position after what it laid, held at the buffer's end. What has no room is left out, and no other byte changes.
+// Words and decimal numbers laid into a lent buffer, one after the other. Each put answers the position after what it
+// laid, held at the buffer's end. What has no room is left out, and no other byte changes.
 ghost use mathlib.Core.Path.{_≡_};
 ghost use mathlib.Core.List.{[], _∷_};
 ghost use Prim.Native.Nat.{min};
@@ -40,7 +40,8 @@ pub fn put_word(out: &mut [u8], at: usize, word: &[u8]) -> usize
     at + size
 }
 
-// Lays a number in decimal: its digits are counted, those with no room passed over, and the others stored from the last.
+// Lays a number in decimal: its digits are counted, those with no room passed over, and the others stored from the
+// last.
 pub fn put_number(out: &mut [u8], at: usize, n: u64) -> usize
     ensures { λ r. ⌜ r ≡ after (now (out .entry)) at (decimal n) ⌝ }
     ensures { λ _. ⌜ now (out .exit) ≡ laid (now (out .entry)) at (decimal n) ⌝ }

@@ -13,10 +13,12 @@ array-share-prefix-recording c =
 
 slice-aggregate-hear : tie.Need-slice-aggregate-hear
 slice-aggregate-hear c =
-    sym (length-take-le _ _ (read-within _ _ _ (c .before .before .before .before .before .read-all .ensures) (c .before .before .n .given .1)))
+    sym (length-take-le _ _ (read-within _ _ _ (c .before .before .before .before .before .read-all .ensures)
+    (c .before .before .n .given .1)))
 
 pub hear-input-spec : {M : Type 1} → statement M
 hear-input-spec =
     tie.close
-    (tie.spec (search needs) (λ c κs. tt) (search needs) (search needs) (λ c κs. tt) (search needs) array-share-prefix-recording
+    (tie.spec (search needs) (λ c κs. tt) (search needs) (search needs) (λ c κs. tt) (search needs)
+    array-share-prefix-recording
     slice-aggregate-hear (λ c κs. tt) (search needs) (λ c κs. tt) (λ c. tt) (λ c. tt) (λ c. tt))

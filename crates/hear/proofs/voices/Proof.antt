@@ -15,5 +15,6 @@ abbrev μ-loop : tie.MeasureT-loop
 pub voices-spec : {M : Type 1} → statement M
 voices-spec =
     tie.close
-    (tie.spec Inv-loop μ-loop (λ c. tt) (λ c κs. tt) (λ c κs. tt) (λ c. tt) (λ c. tt) (λ c. omega arith) (λ c. omega arith) (λ c. tt)
+    (tie.spec Inv-loop μ-loop (λ c. tt) (λ c κs. tt) (λ c κs. tt) (λ c. tt) (λ c. tt) (λ c. omega arith)
+    (λ c. omega arith) (λ c. tt)
     (λ c. tt))

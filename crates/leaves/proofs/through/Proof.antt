@@ -16,6 +16,8 @@ abbrev μ-loop : tie.MeasureT-loop
 pub through-spec : {M : Type 1} → statement M
 through-spec =
     tie.close
-    (tie.spec Inv-loop μ-loop (λ c. tt) (λ c. omega arith) (λ c. tt) (λ c. omega arith) (λ c. omega arith) (λ c κs. tt) (λ c. omega arith)
-    (λ c. omega arith) (λ c. tt) (λ c. omega arith) (λ c. omega arith) (λ c. omega arith) (λ c. omega arith) (λ c κs. tt) (λ c κs. tt)
+    (tie.spec Inv-loop μ-loop (λ c. tt) (λ c. omega arith) (λ c. tt) (λ c. omega arith) (λ c. omega arith) (λ c κs. tt)
+    (λ c. omega arith)
+    (λ c. omega arith) (λ c. tt) (λ c. omega arith) (λ c. omega arith) (λ c. omega arith) (λ c. omega arith)
+    (λ c κs. tt) (λ c κs. tt)
     (λ c κs. tt) (λ c. omega arith) (λ c. tt) (λ c. tt))

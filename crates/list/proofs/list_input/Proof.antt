@@ -14,7 +14,8 @@ array-share-prefix-recording c =
 
 slice-aggregate-list : tie.Need-slice-aggregate-list
 slice-aggregate-list c =
-    sym (length-take-le _ _ (read-within _ _ _ (c .before .before .before .before .before .read-all .ensures) (c .before .before .n .given .1)))
+    sym (length-take-le _ _ (read-within _ _ _ (c .before .before .before .before .before .read-all .ensures)
+    (c .before .before .n .given .1)))
 
 array-share-prefix-text : tie.Need-array-share-prefix-text
 array-share-prefix-text c =

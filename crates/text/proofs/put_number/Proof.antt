@@ -1,10 +1,13 @@
--- `text::put_number` meets its contract. The first loop passes over the digits that have no room, the second lays the others from the last:
--- of the digits from the one at i on, those that have room are laid, and the rest says those before it. The measure is i.
+-- `text::put_number` meets its contract. The first loop passes over the digits that have no room, the second lays the
+-- others from the last:
+-- of the digits from the one at i on, those that have room are laid, and the rest says those before it. The measure is
+-- i.
 -- Assumes nothing.
 use Prim.Native.Nat.{_-_}
 use native.Mathlib.Omega.{arith}
 use borrow.Author.Needs.{needs}
-use Rattle.text.proofs.Turns.{past, Passed, passed-none, passed-more, Numbers, number-none, number-more, number-all, number-length}
+use Rattle.text.proofs.Turns.{past, Passed, passed-none, passed-more, Numbers, number-none, number-more}
+use Rattle.text.proofs.Turns.{number-all, number-length}
 use Rattle.text.proofs.put_number.Statement.{statement}
 use Rattle.text.proofs.put_number.Tie as tie
 
@@ -71,5 +74,7 @@ returns-2 c = number-all (c .before .loop2 .inv) (omega arith)
 pub put-number-spec : {M : Type 1} → statement M
 put-number-spec =
     tie.close
-    (tie.spec Inv-loop μ-loop Inv-loop2 μ-loop2 returns (search needs) (search needs) (search needs) loop-holds sub-i loop-less loop-again
-    loop2-holds sub-i-2 add-place add-out cast-out slice-write-out loop2-less loop2-again add-result same-length returns-2)
+    (tie.spec Inv-loop μ-loop Inv-loop2 μ-loop2 returns (search needs) (search needs) (search needs) loop-holds sub-i
+    loop-less loop-again
+    loop2-holds sub-i-2 add-place add-out cast-out slice-write-out loop2-less loop2-again add-result same-length
+    returns-2)

@@ -20,10 +20,12 @@ returns-2 : tie.Need-returns-2
 returns-2 c =
     let at-test = c .before .before .before .before in
     let f = at-test .before .before .before .fits .x in
-    put-from _ f (at-test .before .raised .ensures ∙ ap raisedOf (toZ-ofZ f)) (omega arith) _ _ (c .before .before .put-number2 .ensures)
+    put-from _ f (at-test .before .raised .ensures ∙ ap raisedOf (toZ-ofZ f)) (omega arith) _ _
+    (c .before .before .put-number2 .ensures)
 
 pub put-signed-spec : {M : Type 1} → statement M
 put-signed-spec =
     tie.close
-    (tie.spec (λ c κs. search needs) (λ c κs. search needs) (λ c. omega arith) (λ c κs. search needs) (search needs) returns
+    (tie.spec (λ c κs. search needs) (λ c κs. search needs) (λ c. omega arith) (λ c κs. search needs) (search needs)
+    returns
     (λ c κs. search needs) (search needs) returns-2)

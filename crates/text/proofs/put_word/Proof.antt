@@ -1,4 +1,5 @@
--- `text::put_word` meets its contract. The loop's invariant: the bytes passed are laid. The measure is the number of those that are left.
+-- `text::put_word` meets its contract. The loop's invariant: the bytes passed are laid. The measure is the number of
+-- those that are left.
 -- Assumes nothing.
 use Prim.Native.Nat.{_-_}
 use native.Mathlib.Omega.{arith}
@@ -49,5 +50,6 @@ returns-2 c = word-all (c .before .loop .inv) (c .loop-test .left)
 pub put-word-spec : {M : Type 1} → statement M
 put-word-spec =
     tie.close
-    (tie.spec Inv-loop μ-loop returns (search needs) (search needs) loop-holds add-here shared-slice-read-out slice-write-out add-i loop-less
+    (tie.spec Inv-loop μ-loop returns (search needs) (search needs) loop-holds add-here shared-slice-read-out
+    slice-write-out add-i loop-less
     loop-again add-result same-length returns-2)

@@ -13,4 +13,5 @@ slice-aggregate-oatlantern-read-frame c = sym (length-take-le _ _ (omega arith))
 pub read-into-spec : {M : Type 1} → statement M
 read-into-spec =
     tie.close
-    (tie.spec (λ c. tt) (search needs) slice-aggregate-oatlantern-read-frame (λ c κs. tt) (λ c κs. tt) (search needs) (λ c. tt))
+    (tie.spec (λ c. tt) (search needs) slice-aggregate-oatlantern-read-frame (λ c κs. tt) (λ c κs. tt) (search needs)
+    (λ c. tt))

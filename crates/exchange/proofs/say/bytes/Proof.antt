@@ -14,4 +14,5 @@ abbrev μ-loop : tie.MeasureT-loop
 μ-loop xs i₀ i = length xs - i
 
 pub bytes-spec : {M : Type 1} → statement M
-bytes-spec = tie.close (tie.spec Inv-loop μ-loop (λ c. tt) (λ c. omega arith) (λ c κs. tt) (λ c. omega arith) (λ c. omega arith) (λ c. tt) (λ c. tt))
+bytes-spec = tie.close (tie.spec Inv-loop μ-loop (λ c. tt) (λ c. omega arith) (λ c κs. tt) (λ c. omega arith)
+    (λ c. omega arith) (λ c. tt) (λ c. tt))

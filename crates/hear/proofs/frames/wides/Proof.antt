@@ -16,5 +16,6 @@ abbrev μ-loop : tie.MeasureT-loop
 pub wides-spec : {M : Type 1} → statement M
 wides-spec =
     tie.close
-    (tie.spec Inv-loop μ-loop (λ c. tt) (search needs) (λ c. omega arith) (λ c κs. tt) (λ c. omega arith) (λ c. omega arith) (λ c. tt)
+    (tie.spec Inv-loop μ-loop (λ c. tt) (search needs) (λ c. omega arith) (λ c κs. tt) (λ c. omega arith)
+    (λ c. omega arith) (λ c. tt)
     (λ c. tt))

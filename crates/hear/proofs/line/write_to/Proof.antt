@@ -16,4 +16,5 @@ slice-aggregate-write-all c =
 
 pub write-to-spec : {M : Type 1} → statement M
 write-to-spec =
-    tie.close (tie.spec (search needs) (search needs) slice-aggregate-write-all (search needs) (search needs) (search needs))
+    tie.close (tie.spec (search needs) (search needs) slice-aggregate-write-all (search needs) (search needs)
+    (search needs))

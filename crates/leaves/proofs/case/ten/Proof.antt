@@ -15,5 +15,6 @@ abbrev μ-loop : tie.MeasureT-loop
 pub ten-spec : {M : Type 1} → statement M
 ten-spec =
     tie.close
-    (tie.spec Inv-loop μ-loop (λ c. tt) (search needs) (λ c. omega arith) (λ c κs. tt) (search needs) (search needs) (λ c. omega arith)
+    (tie.spec Inv-loop μ-loop (λ c. tt) (search needs) (λ c. omega arith) (λ c κs. tt) (search needs) (search needs)
+    (λ c. omega arith)
     (λ c. omega arith) (λ c. tt) (λ c. tt))

@@ -23,5 +23,6 @@ cast-signed c =
 pub drawn-spec : {M : Type 1} → statement M
 drawn-spec =
     tie.close
-    (tie.spec Inv-loop μ-loop (λ c κs. tt) (λ c κs. tt) (λ c κs. tt) (λ c κs. tt) (λ c. tt) (λ c κs. tt) cast-signed (λ c κs. tt) (λ c κs. tt)
+    (tie.spec Inv-loop μ-loop (λ c κs. tt) (λ c κs. tt) (λ c κs. tt) (λ c κs. tt) (λ c. tt) (λ c κs. tt) cast-signed
+    (λ c κs. tt) (λ c κs. tt)
     (λ c. omega arith) (λ c. omega arith) (λ c. tt) (λ c. tt))

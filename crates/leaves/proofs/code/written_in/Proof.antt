@@ -13,5 +13,6 @@ slice-aggregate-write-code c = sym (length-take-le _ _ (omega arith))
 pub written-in-spec : {M : Type 1} → statement M
 written-in-spec =
     tie.close
-    (tie.spec (λ c κs. tt) (search needs) (λ c. tt) (λ c κs. tt) (λ c. omega arith) slice-aggregate-write-code (λ c κs. tt) (search needs)
+    (tie.spec (λ c κs. tt) (search needs) (λ c. tt) (λ c κs. tt) (λ c. omega arith) slice-aggregate-write-code
+    (λ c κs. tt) (search needs)
     (search needs) (search needs) (search needs) (λ c. tt) (search needs) (λ c. tt) (search needs) (λ c. tt))

@@ -15,5 +15,6 @@ abbrev μ-loop : tie.MeasureT-loop
 pub as-one-spec : {M : Type 1} → statement M
 as-one-spec =
     tie.close
-    (tie.spec Inv-loop μ-loop (λ c. tt) (λ c. omega arith) (λ c. omega arith) (λ c κs. tt) (λ c κs. tt) (λ c. omega arith) (λ c. omega arith)
+    (tie.spec Inv-loop μ-loop (λ c. tt) (λ c. omega arith) (λ c. omega arith) (λ c κs. tt) (λ c κs. tt)
+    (λ c. omega arith) (λ c. omega arith)
     (λ c. tt) (λ c. tt))

@@ -13,4 +13,5 @@ slice-aggregate-laid c = sym (length-take-le _ _ (omega arith))
 pub laid-in-spec : {M : Type 1} → statement M
 laid-in-spec =
     tie.close
-    (tie.spec (search needs) (search needs) (search needs) (search needs) slice-aggregate-laid (search needs) (search needs) (search needs))
+    (tie.spec (search needs) (search needs) (search needs) (search needs) slice-aggregate-laid (search needs)
+    (search needs) (search needs))
