@@ -3,6 +3,6 @@ use Prim.Native.Nat.{ℕ}
 use Rattle.input.specs.declared.Input.{Input}
 use Rattle.input.specs.declared.Input.the-variants.{Bytes, Failed}
 
-abbrev pub bytesOf : Input → ℕ
-bytesOf (Bytes n) = n
-bytesOf Failed = 0
+abbrev pub countRead : Input → ℕ
+countRead (Bytes n) = n
+countRead Failed = 0

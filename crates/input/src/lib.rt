@@ -3,7 +3,7 @@
 use libc::STDIN_FILENO;
 ghost use Prim.Native.Nat.{_≤_};
 ghost use lib.ListN.{length};
-ghost use Rattle.input.specs.Input.{bytesOf};
+ghost use Rattle.input.specs.Input.{countRead};
 
 // How many bytes were read, or that a read failed.
 pub enum Input {
@@ -13,7 +13,7 @@ pub enum Input {
 
 // Reads until the buffer is full or the input ends.
 pub fn read_all(buf: &mut [u8]) -> Input
-    ensures { λ r. ⌜ bytesOf r ≤ length (now (buf .exit)) ⌝ }
+    ensures { λ r. ⌜ countRead r ≤ length (now (buf .exit)) ⌝ }
 {
     let mut done = 0;
     while done < buf.len() {
