@@ -17,7 +17,8 @@ pub text-answered : (s : List ℕ) (n m : ℕ) → listedOf s n ≡ Text m → (
 unfolding listedOf
 text-answered s n m e = go (eqb n room) refl e
   where
-    go : (b : Bool) → eqb n room ≡ b → cond b (Text (length (listingOf s))) WrongLength ≡ Text m → (n ≡ room) × (m ≡ length (listingOf s))
+    go : (b : Bool) → eqb n room ≡ b → cond b (Text (length (listingOf s))) WrongLength ≡ Text m
+        → (n ≡ room) × (m ≡ length (listingOf s))
     go true t e = (eqb-true n room t, let l : length (listingOf s) ≡ m = cc in sym l)
     go false t e = absurd (let z : _≡_ {A = ℕ} 0 1 = cc in omega arith)
 
@@ -43,7 +44,8 @@ refused-listing-stays s o = ((told, refused), λ w. rw (ne-eqb (length o) room w
         let z : refusalOf (cond (eqb (length o) room) (Text (length (listingOf s))) WrongLength) ≡ 0 = rw (eq-eqb (length o) room long) in
         omega (arith, e, z)
 
-    refused : (length o ≡ room → ⊥) → refusalOf (cond (eqb (length o) room) (Text (length (listingOf s))) WrongLength) ≡ 1
+    refused : (length o ≡ room → ⊥)
+        → refusalOf (cond (eqb (length o) room) (Text (length (listingOf s))) WrongLength) ≡ 1
     refused w = rw (ne-eqb (length o) room w)
 
 -- the text answered is within the buffer

@@ -17,7 +17,8 @@ use Rattle.listing.specs.declared.Line.{Line}
 use Rattle.text.specs.Ascii.{ascii}
 use Rattle.text.specs.Decimal.{decimal}
 use Rattle.text.proofs.Laid.{put-then}
-use Rattle.listing.specs.Lines.{told, pairLine, headLine, fields, lineOf, saidOf, frameLine, lastLine, placeShown, refusedLine}
+use Rattle.listing.specs.Lines.{told, pairLine, headLine, fields, lineOf, saidOf, frameLine, lastLine}
+use Rattle.listing.specs.Lines.{placeShown, refusedLine}
 use Rattle.listing.proofs.Puts.{Put, put-as, fields-then}
 
 -- the return of `put_pair`
@@ -28,7 +29,8 @@ unfolding pairLine
 pair-put o at first m second n p q e = put-then o at _ _ (put-then o at _ _ p q) e
 
 -- the return of `put_head`
-pub head-put : (o : List ℕ) (w : Walk) {o₁ o₂ : List ℕ} {at₁ at₂ : ℕ} → Put o 0 (told (ascii "unit ") (w .heading .unit)) at₁ o₁
+pub head-put : (o : List ℕ) (w : Walk) {o₁ o₂ : List ℕ} {at₁ at₂ : ℕ}
+    → Put o 0 (told (ascii "unit ") (w .heading .unit)) at₁ o₁
     → Put o₁ at₁ (pairLine (ascii " recording ") (w .heading .number) (ascii " frames ") (w .frames)) at₂ o₂
     → Put o 0 (headLine w) at₂ o₂
 unfolding headLine
@@ -36,13 +38,16 @@ head-put o w p q = put-then o 0 _ _ p q
 
 -- the return of `put_last`
 pub last-put : (o : List ℕ) (at : ℕ) (c : Counts) {o₁ : List ℕ} {at₁ : ℕ}
-    → Put o at (pairLine (ascii "repaired ") (c .repaired) (ascii " breaks ") (c .breaks)) at₁ o₁ → Put o at (lastLine c) at₁ o₁
+    → Put o at (pairLine (ascii "repaired ") (c .repaired) (ascii " breaks ") (c .breaks)) at₁ o₁
+    → Put o at (lastLine c) at₁ o₁
 unfolding lastLine
 last-put o at c p = p
 
 -- the return of `put_refused`
-pub refused-put : (o : List ℕ) (cause : Cause) {number place : ℕ} {tells : Told} {o₁ : List ℕ} {at₁ : ℕ} → number ≡ refusalOf cause
-    → tells ≡ toldOf cause → place ≡ placeShown tells → Put o 0 (pairLine (ascii "refused ") number (ascii " at ") place) at₁ o₁
+pub refused-put : (o : List ℕ) (cause : Cause) {number place : ℕ} {tells : Told} {o₁ : List ℕ} {at₁ : ℕ}
+    → number ≡ refusalOf cause
+    → tells ≡ toldOf cause → place ≡ placeShown tells
+    → Put o 0 (pairLine (ascii "refused ") number (ascii " at ") place) at₁ o₁
     → Put o 0 (refusedLine cause) at₁ o₁
 unfolding refusedLine
 refused-put o cause {number} {place} n t l p =
@@ -62,7 +67,8 @@ line-is h p q =
     λ i. record { correction = q i; refusal = p i; mark = h .reading .mark; sy = h .reading .indices .sy; delays = h .values .delays }
 
 -- the return of `put_line`
-pub line-put : (o : List ℕ) (at n : ℕ) (l : Line) {o₁ o₂ o₃ o₄ : List ℕ} {at₁ at₂ at₃ at₄ : ℕ} → Put o at (decimal n) at₁ o₁
+pub line-put : (o : List ℕ) (at n : ℕ) (l : Line) {o₁ o₂ o₃ o₄ : List ℕ} {at₁ at₂ at₃ at₄ : ℕ}
+    → Put o at (decimal n) at₁ o₁
     → Put o₁ at₁ (fields (l .correction ∷ [])) at₂ o₂ → Put o₂ at₂ (saidOf l) at₃ o₃ → Put o₃ at₃ (ascii "\n") at₄ o₄
     → Put o at (frameLine n l) at₄ o₄
 unfolding frameLine
@@ -77,7 +83,8 @@ numbers-put o at mark sy delays p q u =
 
 -- the returns of `put_said`: a refusal, or the numbers
 module _ (o : List ℕ) (at : ℕ) (l : Line) {o₁ : List ℕ} {at₁ : ℕ} where
-  pub said-refused : (l .refusal ≡ 0 → ⊥) → Put o at (told (ascii " refused ") (l .refusal)) at₁ o₁ → Put o at (saidOf l) at₁ o₁
+  pub said-refused : (l .refusal ≡ 0 → ⊥) → Put o at (told (ascii " refused ") (l .refusal)) at₁ o₁
+      → Put o at (saidOf l) at₁ o₁
   unfolding saidOf
   said-refused w p =
       put-as o at (told (ascii " refused ") (l .refusal)) (saidOf l) (rw (ne-eqb (l .refusal) 0 w)) p

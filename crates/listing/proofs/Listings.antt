@@ -62,7 +62,8 @@ module _ (s o : List ℕ) (bytes : (i : ℕ) → getD s i 0 < 256) (long : lengt
         ∙ ap (λ (x : Walked). textBy (x .ending) (soundText (x .walk) (framesOf s))) is
 
     -- a refused recording
-    pub listed-refused : {cause : Cause} → w .ending ≡ Refused cause → {end : ℕ} {o′ : List ℕ} → Put o 0 (refusedLine cause) end o′
+    pub listed-refused : {cause : Cause} → w .ending ≡ Refused cause → {end : ℕ} {o′ : List ℕ}
+        → Put o 0 (refusedLine cause) end o′
         → Answered s o (Text end) o′
     listed-refused {cause} ends p = listed-whole (put-as o 0 (refusedLine cause) (listingOf s) (text-is (Refused cause) ends) p)
 

@@ -49,7 +49,8 @@ unfolding fields
 fields-one n = sym (append-nil (ascii " " ++ decimal n))
 
 -- the return of `put_field`
-pub field-put : (o : List ℕ) (at n : ℕ) {o₁ o₂ : List ℕ} {at₁ at₂ : ℕ} → Put o at (ascii " ") at₁ o₁ → Put o₁ at₁ (decimal n) at₂ o₂
+pub field-put : (o : List ℕ) (at n : ℕ) {o₁ o₂ : List ℕ} {at₁ at₂ : ℕ} → Put o at (ascii " ") at₁ o₁
+    → Put o₁ at₁ (decimal n) at₂ o₂
     → Put o at (fields (n ∷ [])) at₂ o₂
 field-put o at n p q = put-as o at (ascii " " ++ decimal n) (fields (n ∷ [])) (fields-one n) (put-then o at (ascii " ") (decimal n) p q)
 

@@ -1,4 +1,5 @@
--- Every listing is short enough. The bounds are loose where the room is large: 3,640 lines of at most 35 bytes, and a thousand for
+-- Every listing is short enough. The bounds are loose where the room is large: 3,640 lines of at most 35 bytes, and a
+-- thousand for
 -- each of the other lines.
 -- Assumes nothing.
 use mathlib.Core.Path.{_≡_, refl}
@@ -35,7 +36,8 @@ use Rattle.recording.proofs.Passes.{frames-most}
 use Rattle.text.specs.Ascii.{ascii}
 use Rattle.text.specs.Decimal.{decimal}
 use Rattle.text.proofs.Decimal.{decimal-most}
-use Rattle.listing.specs.Lines.{pairLine, headLine, fields, lineOf, saidOf, frameLine, lastLine, placeShown, refusedLine}
+use Rattle.listing.specs.Lines.{pairLine, headLine, fields, lineOf, saidOf, frameLine, lastLine, placeShown}
+use Rattle.listing.specs.Lines.{refusedLine}
 use Rattle.listing.specs.Listing.{linesTo, bodyOf, soundText, textBy, listingOf, room}
 use Rattle.listing.specs.Promised.{ListingFits}
 use Rattle.listing.proofs.Told.{Placed, Small, walked-small, walked-placed}
@@ -43,7 +45,8 @@ use Rattle.listing.proofs.Told.{Placed, Small, walked-small, walked-pla
 -- ---- lines of words and numbers
 
 -- a line of two words and their numbers, none of them over a hundred bytes or twenty digits
-pair-short : (first : List ℕ) (m : ℕ) (second : List ℕ) (n : ℕ) → length first ≤ 100 → length second ≤ 100 → m < 10 ^ 20 → n < 10 ^ 20
+pair-short : (first : List ℕ) (m : ℕ) (second : List ℕ) (n : ℕ) → length first ≤ 100 → length second ≤ 100
+    → m < 10 ^ 20 → n < 10 ^ 20
     → length (pairLine first m second n) ≤ 300
 unfolding pairLine
 pair-short first m second n a b c d =
@@ -55,7 +58,8 @@ last-short : (c : Counts) → c .repaired < 10 ^ 20 → c .breaks < 10 ^ 20 → 
 unfolding lastLine
 last-short c a b = let l = pair-short (ascii "repaired ") (c .repaired) (ascii " breaks ") (c .breaks) (omega arith) (omega arith) a b in omega arith
 
-head-short : (w : Walk) → w .heading .unit < 10 ^ 20 → w .heading .number < 10 ^ 20 → w .frames < 10 ^ 20 → length (headLine w) ≤ 1000
+head-short : (w : Walk) → w .heading .unit < 10 ^ 20 → w .heading .number < 10 ^ 20 → w .frames < 10 ^ 20
+    → length (headLine w) ≤ 1000
 unfolding headLine
 head-short w a b c =
     let u = decimal-most (w .heading .unit) 20 (omega arith) a in
@@ -140,7 +144,8 @@ module _ (before : State) (f : List ℕ) where
       let l = said-short in
       simp length-append (omega arith)
 
-lines-short : (before : State) (frames : List (List ℕ)) (k : ℕ) → k ≤ length frames → k ≤ 3640 → length (linesTo before frames k) ≤ 35 * k
+lines-short : (before : State) (frames : List (List ℕ)) (k : ℕ) → k ≤ length frames → k ≤ 3640
+    → length (linesTo before frames k) ≤ 35 * k
 unfolding linesTo
 lines-short before frames zero h m = omega arith
 lines-short before frames (suc k) h m =

@@ -1,4 +1,5 @@
--- The lines of a listing (document 01, "The listing program"). Fields are one space apart and each line ends in a newline.
+-- The lines of a listing (document 01, "The listing program"). Fields are one space apart and each line ends in a
+-- newline.
 use mathlib.Core.Bool.{cond}
 use mathlib.Core.List.{List, [], _∷_, _++_}
 use Prim.Native.Nat.{ℕ}
@@ -34,7 +35,8 @@ unfoldable pub fields : List ℕ → List ℕ
 fields [] = []
 fields (n ∷ ns) = ascii " " ++ decimal n ++ fields ns
 
--- what a line prints of a frame that was heard: correction number, its refusal as a record turned into values (0 where there is
+-- what a line prints of a frame that was heard: correction number, its refusal as a record turned into values (0
+-- where there is
 -- none), order mark, SY, four delays in twelfths
 abbrev pub lineOf : Hearing → Line
 lineOf h =

@@ -8,13 +8,15 @@ use Rattle.blocks.specs.Frames.{framesOf}
 use Rattle.recording.specs.Counted.{countsTo, countsOf}
 use Rattle.recording.specs.Pass.{hearingOf, noHearing, stateThrough, frameHeard, nextOf, passAt}
 
--- from any start state, frame k + 1 is heard after the state that went through the k frames before it, across voice blocks
+-- from any start state, frame k + 1 is heard after the state that went through the k frames before it, across voice
+-- blocks
 abbrev pub StateRunsOn : Type 0
 StateRunsOn =
     (before : State) (s : List ℕ) (k : ℕ) → k < length (framesOf s)
     → frameHeard before (framesOf s) (suc k) ≡ hearingOf (stateThrough before (take k (framesOf s))) (getD (framesOf s) k [])
 
--- before the first there is nothing, and the state is as it came; past the last there is nothing, and it is the one after all frames
+-- before the first there is nothing, and the state is as it came; past the last there is nothing, and it is the one
+-- after all frames
 abbrev pub NothingBeyond : Type 0
 NothingBeyond =
     (before : State) (s : List ℕ)

@@ -59,7 +59,8 @@ module _ (frames : List (List ℕ)) where
   counts-none = refl
 
   -- the counts of one frame more
-  pub counts-more : (k : ℕ) → counting (countsTo frames k) (k + 1) (readingOf (frameAt frames (k + 1))) ≡ countsTo frames (k + 1)
+  pub counts-more : (k : ℕ)
+      → counting (countsTo frames k) (k + 1) (readingOf (frameAt frames (k + 1))) ≡ countsTo frames (k + 1)
   unfolding countsTo
   counts-more k =
       λ i. record {

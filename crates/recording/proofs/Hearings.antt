@@ -14,7 +14,8 @@ use Rattle.recording.specs.Pass.{hearingOf, noHearing, stateThrough, fir
 use Rattle.recording.specs.declared.Hearing.{Hearing}
 
 -- the return of `Hearing::of`
-pub heard-frame : (before : State) (f : List ℕ) {r : Reading} {v : Values} → r ≡ readingOf f → v ≡ valuesOf (r .indices) before
+pub heard-frame : (before : State) (f : List ℕ) {r : Reading} {v : Values} → r ≡ readingOf f
+    → v ≡ valuesOf (r .indices) before
     → record { reading = r; values = v } ≡ hearingOf before f
 unfolding hearingOf
 heard-frame before f read valued =
@@ -52,7 +53,8 @@ module _ (before : State) (frames : List (List ℕ)) where
   heard-there k h = ap (firstHeard (stateThrough before (take k frames))) (drop-cons frames k [] h)
 
   -- past the last there is nothing, and the state is the one after all
-  pub heard-beyond : (k : ℕ) → length frames ≤ k → frameHeard before frames (suc k) ≡ noHearing (stateThrough before frames)
+  pub heard-beyond : (k : ℕ) → length frames ≤ k
+      → frameHeard before frames (suc k) ≡ noHearing (stateThrough before frames)
   unfolding frameHeard
   heard-beyond k h =
       ap (firstHeard (stateThrough before (take k frames))) (drop-of-length-le frames h)

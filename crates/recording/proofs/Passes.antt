@@ -1,4 +1,5 @@
--- The returns of the functions of a pass, and the law of a pass: after k steps from the start it stands before frame k + 1, with the
+-- The returns of the functions of a pass, and the law of a pass: after k steps from the start it stands before frame
+-- k + 1, with the
 -- counts and the state of the k frames before it; and its step hears that frame.
 -- Assumes nothing.
 use mathlib.Core.Path.{_≡_, _∙_, sym, refl, ap, ap₂}
@@ -32,7 +33,8 @@ use Rattle.blocks.proofs.Voices.{broken-no-voice}
 use Rattle.blocks.proofs.Walks.{sound-short}
 use Rattle.blocks.proofs.Frames.{no-voice, Within, found-within, frames-none, frames-more, frames-refused, frames-sound}
 use Rattle.recording.specs.Counted.{counting, frameAt, countsTo}
-use Rattle.recording.specs.Pass.{hearingOf, noHearing, stateThrough, frameHeard, begunAt, startOf, begunHere, aheadOf, pastFrame, stepBy, nextOf, passAt}
+use Rattle.recording.specs.Pass.{hearingOf, noHearing, stateThrough, frameHeard, begunAt, startOf, begunHere}
+use Rattle.recording.specs.Pass.{aheadOf, pastFrame, stepBy, nextOf, passAt}
 use Rattle.recording.specs.declared.Counts.{Counts}
 use Rattle.recording.specs.declared.Hearing.{Hearing}
 use Rattle.recording.specs.declared.Pass.{Pass}
@@ -44,7 +46,8 @@ use Rattle.recording.proofs.Hearings.{through-none, through-next, heard
 
 -- of `start`: before the first voice block of a sound recording, at the end of one that is refused
 module _ (s : List ℕ) (before : State) {w : Walked} (is : w ≡ walkedOf s) {p : Pass} where
-  started : (e : Ending) → w .ending ≡ e → p ≡ begunAt (ifSound e (w .walk .voices) (length s)) before → p ≡ startOf before s
+  started : (e : Ending) → w .ending ≡ e → p ≡ begunAt (ifSound e (w .walk .voices) (length s)) before
+      → p ≡ startOf before s
   unfolding startOf
   started e ends begun =
       begun ∙ ap (λ (x : Ending). begunAt (ifSound x (w .walk .voices) (length s)) before) (sym ends)
@@ -53,7 +56,8 @@ module _ (s : List ℕ) (before : State) {w : Walked} (is : w ≡ walkedOf s) {p
   pub start-sound : w .ending ≡ Ending.Sound → p ≡ begunAt (w .walk .voices) before → p ≡ startOf before s
   start-sound = started Ending.Sound
 
-  pub start-refused : {cause : Cause} → w .ending ≡ Ending.Refused cause → p ≡ begunAt (length s) before → p ≡ startOf before s
+  pub start-refused : {cause : Cause} → w .ending ≡ Ending.Refused cause → p ≡ begunAt (length s) before
+      → p ≡ startOf before s
   start-refused {cause} = started (Ending.Refused cause)
 
   -- and so after its own state
@@ -61,7 +65,8 @@ module _ (s : List ℕ) (before : State) {w : Walked} (is : w ≡ walkedOf s) {p
   start-own ends begun = start-sound ends begun ∙ ap (λ (x : State). startOf x s) (sym (ap (λ (x : Pass). x .state) begun))
 
 -- a pass that begins from the walk of a sound recording
-pub start-walk : (s : List ℕ) {walk : Walk} {before : State} {p : Pass} → walk ≡ walkedOf s .walk → walkedOf s .ending ≡ Ending.Sound
+pub start-walk : (s : List ℕ) {walk : Walk} {before : State} {p : Pass} → walk ≡ walkedOf s .walk
+    → walkedOf s .ending ≡ Ending.Sound
     → p ≡ begunAt (walk .voices) before → p ≡ startOf (p .state) s
 start-walk s {walk} {before} e ends begun =
     start-own s before refl ends (begun ∙ ap (λ (x : Walk). begunAt (x .voices) before) e)
@@ -76,7 +81,8 @@ module _ (s : List ℕ) (p : Pass) where
   unfolding aheadOf
   ahead-repaired m h = rw (le-leb (p .frames) longest m, lt-leb (p .counts .repaired) (p .frames) h)
 
-  pub ahead-broken : p .frames ≤ longest → p .counts .repaired ≤ p .frames → p .frames < p .counts .breaks → Nothing ≡ aheadOf s p
+  pub ahead-broken : p .frames ≤ longest → p .counts .repaired ≤ p .frames → p .frames < p .counts .breaks
+      → Nothing ≡ aheadOf s p
   unfolding aheadOf
   ahead-broken m r h =
       rw (le-leb (p .frames) longest m, le-leb (p .counts .repaired) (p .frames) r, lt-leb (p .counts .breaks) (p .frames) h)
@@ -101,7 +107,8 @@ module _ (s : List ℕ) (p : Pass) where
       never : Nothing ≡ At first rest → Ahead first rest
       never e = absurd (let z : _≡_ {A = ℕ} 0 1 = cc in omega arith)
 
-      go : (a b c : Bool) → leb (p .frames) longest ≡ a → leb (p .counts .repaired) (p .frames) ≡ b → leb (p .counts .breaks) (p .frames) ≡ c
+      go : (a b c : Bool) → leb (p .frames) longest ≡ a → leb (p .counts .repaired) (p .frames) ≡ b
+          → leb (p .counts .breaks) (p .frames) ≡ c
           → cond (both a (both b c)) (foundAt s (p .at) (p .left)) Nothing ≡ At first rest → Ahead first rest
       go false b c x y z e = never e
       go true false c x y z e = never e
@@ -115,7 +122,8 @@ module _ (s : List ℕ) (p : Pass) where
           }
 
 -- of `Pass::past`
-pub past-frame : (p : Pass) (h : Hearing) (end left : ℕ) {c : Counts} → c ≡ counting (p .counts) (p .frames + 1) (h .reading)
+pub past-frame : (p : Pass) (h : Hearing) (end left : ℕ) {c : Counts}
+    → c ≡ counting (p .counts) (p .frames + 1) (h .reading)
     → record { at = end; left = left; frames = p .frames + 1; counts = c; state = h .values .state } ≡ pastFrame p h end left
 past-frame p h end left e =
     λ i. record { at = end; left = left; frames = p .frames + 1; counts = e i; state = h .values .state }
@@ -127,7 +135,8 @@ stayed p e = λ i. record { hearing = e i; pass = p }
 
 -- of `Pass::hear`
 module _ (s : List ℕ) (p : Pass) where
-  pub went-past : (first rest : ℕ) {h : Hearing} {q : Pass} → h ≡ hearingOf (p .state) (part s first (first + 18 - first))
+  pub went-past : (first rest : ℕ) {h : Hearing} {q : Pass}
+      → h ≡ hearingOf (p .state) (part s first (first + 18 - first))
       → q ≡ pastFrame p h (first + 18) rest → record { hearing = h; pass = q } ≡ stepBy s p (At first rest)
   went-past first rest {h} {q} e is =
       let m : first + 18 - first ≡ 18 = omega arith in
@@ -201,7 +210,8 @@ left-none d xs k e = go (decLt k (length xs))
         absurd (let z : _≡_ {A = ℕ} 0 1 = cc in omega arith)
     go (no h) = omega arith
 
--- a pass on its way from the start: what is left to it are the frames after those that it passed, whose counts and state it has
+-- a pass on its way from the start: what is left to it are the frames after those that it passed, whose counts and
+-- state it has
 pub record Passing (before : State) (s : List ℕ) (p : Pass) : Type 0 where
   pub rest : framesFrom s (p .at) (p .left) ≡ drop (p .frames) (framesOf s)
   pub most : p .frames ≤ length (framesOf s)

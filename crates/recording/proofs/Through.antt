@@ -94,7 +94,8 @@ record After (before : State) (s : List ℕ) (k : ℕ) (p : Pass) : Type 0 where
   some : k ≤ length (framesOf s) → p .frames ≡ k
   all : length (framesOf s) ≤ k → p .frames ≡ length (framesOf s)
 
-after-next : (before : State) (s : List ℕ) (k : ℕ) (p : Pass) → After before s k p → After before s (suc k) (nextOf s p .pass)
+after-next : (before : State) (s : List ℕ) (k : ℕ) (p : Pass) → After before s k p
+    → After before s (suc k) (nextOf s p .pass)
 after-next before s k p a = go (nextOf s p) (passing-next before s p (a .passing))
   where
     within : p .frames < length (framesOf s) → Dec (k < length (framesOf s)) → k < length (framesOf s)
@@ -121,7 +122,8 @@ unfolding passAt
 pass-on before s k = refl
 
 -- where a step passes no frame, the pass stays where it is, however many steps follow
-pass-stays : (before : State) (s : List ℕ) (k : ℕ) → nextOf s (passAt before s k) .pass .frames ≡ passAt before s k .frames
+pass-stays : (before : State) (s : List ℕ) (k : ℕ)
+    → nextOf s (passAt before s k) .pass .frames ≡ passAt before s k .frames
     → (n : ℕ) → passAt before s k ≡ passAt before s (k + n)
 pass-stays before s k e = go
   where
@@ -213,7 +215,8 @@ module _ (s : List ℕ) (k : ℕ) {fresh before : State} (same : fresh ≡ befor
       e ∙ ap noHearing same ∙ sym (heard-before-first before (framesOf s)) ∙ ap (frameHeard before (framesOf s)) (sym z)
 
   -- the step of the pass after the frames before it hears frame k
-  pub sought : {p q : Pass} {t : Step} → (k ≡ 0 → ⊥) → p ≡ startOf fresh s → q ≡ passAt (p .state) s (k - 1) → t ≡ nextOf s q
+  pub sought : {p q : Pass} {t : Step} → (k ≡ 0 → ⊥) → p ≡ startOf fresh s → q ≡ passAt (p .state) s (k - 1)
+      → t ≡ nextOf s q
       → t .hearing ≡ frameHeard before (framesOf s) k
   sought {p} z is here next =
       let n : suc (k - 1) ≡ k = omega arith in
@@ -233,7 +236,8 @@ all-summed s w before is =
     (ap (λ (x : Pass). x .counts) is ∙ pass-all before s (length s) (let f = frames-fit s in omega arith))
 
 module _ (s : List ℕ) {w : Walked} (is : w ≡ walkedOf s) where
-  judged : (e : Ending) → w .ending ≡ e → {c : Counts} → c ≡ countsOf (framesOf s) → judgedBy e (summaryOf (w .walk) c) ≡ judgedOf s
+  judged : (e : Ending) → w .ending ≡ e → {c : Counts} → c ≡ countsOf (framesOf s)
+      → judgedBy e (summaryOf (w .walk) c) ≡ judgedOf s
   unfolding judgedOf
   judged e ends {c} counted =
       ap (λ (x : Ending). judgedBy x (summaryOf (w .walk) c)) (sym ends)
@@ -243,7 +247,8 @@ module _ (s : List ℕ) {w : Walked} (is : w ≡ walkedOf s) where
   pub judge-refused : {cause : Cause} → w .ending ≡ Ending.Refused cause → Refused cause ≡ judgedOf s
   judge-refused {cause} ends = judged (Ending.Refused cause) ends refl
 
-  pub judge-sound : w .ending ≡ Ending.Sound → {x : Summary} → x ≡ summaryOf (w .walk) (countsOf (framesOf s)) → Sound x ≡ judgedOf s
+  pub judge-sound : w .ending ≡ Ending.Sound → {x : Summary} → x ≡ summaryOf (w .walk) (countsOf (framesOf s))
+      → Sound x ≡ judgedOf s
   judge-sound ends counted = ap Sound counted ∙ judged Ending.Sound ends refl
 
   -- what `summarize` requires

@@ -38,4 +38,7 @@ same-length-2 : tie.Need-same-length-2
 same-length-2 c = put-length _ _ _ (c .before .before .put-sound .ensures)
 
 pub list-spec : {M : Type 1} → statement M
-list-spec = tie.close (tie.spec returns (λ c κs. tt) (search needs) (λ c κs. tt) (search needs) put-sound-requires same-length returns-2 same-length-2 returns-3)
+list-spec =
+    tie.close
+    (tie.spec returns (λ c κs. tt) (search needs) (λ c κs. tt) (search needs) put-sound-requires same-length returns-2
+    same-length-2 returns-3)

@@ -31,4 +31,7 @@ same-length : tie.Need-same-length Inv-loop μ-loop
 same-length c = put-length _ _ _ (returns c)
 
 pub put-fields-spec : {M : Type 1} → statement M
-put-fields-spec = tie.close (tie.spec Inv-loop μ-loop loop-holds (search needs) (search needs) cast-number (λ c κs. tt) (λ c. omega arith) (λ c. omega arith) loop-again same-length returns)
+put-fields-spec =
+    tie.close
+    (tie.spec Inv-loop μ-loop loop-holds (search needs) (search needs) cast-number (λ c κs. tt) (λ c. omega arith)
+    (λ c. omega arith) loop-again same-length returns)

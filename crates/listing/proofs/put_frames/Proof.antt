@@ -41,4 +41,7 @@ loop-again c =
     listing-on (n .before .loop .inv) (n .next .ensures) (l .before .if1 .left) (l .line-of .ensures) (p .put-line .ensures)
 
 pub put-frames-spec : {M : Type 1} → statement M
-put-frames-spec = tie.close (tie.spec Inv-loop μ-loop loop-holds (λ c κs. tt) (λ c κs. tt) same-length returns (λ c κs. tt) (λ c κs. tt) loop-less loop-again)
+put-frames-spec =
+    tie.close
+    (tie.spec Inv-loop μ-loop loop-holds (λ c κs. tt) (λ c κs. tt) same-length returns (λ c κs. tt) (λ c κs. tt)
+    loop-less loop-again)

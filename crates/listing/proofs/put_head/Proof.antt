@@ -15,4 +15,7 @@ same-length : tie.Need-same-length
 same-length c = put-length _ _ _ (returns c)
 
 pub put-head-spec : {M : Type 1} → statement M
-put-head-spec = tie.close (tie.spec (search needs) (λ c. omega arith) (λ c κs. tt) (search needs) (λ c. omega arith) (search needs) (λ c. omega arith) (λ c κs. tt) same-length returns)
+put-head-spec =
+    tie.close
+    (tie.spec (search needs) (λ c. omega arith) (λ c κs. tt) (search needs) (λ c. omega arith) (search needs)
+    (λ c. omega arith) (λ c κs. tt) same-length returns)

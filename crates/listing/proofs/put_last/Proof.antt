@@ -14,4 +14,6 @@ same-length : tie.Need-same-length
 same-length c = put-length _ _ _ (returns c)
 
 pub put-last-spec : {M : Type 1} → statement M
-put-last-spec = tie.close (tie.spec (search needs) (λ c. omega arith) (search needs) (λ c. omega arith) (λ c κs. tt) same-length returns)
+put-last-spec =
+    tie.close
+    (tie.spec (search needs) (λ c. omega arith) (search needs) (λ c. omega arith) (λ c κs. tt) same-length returns)

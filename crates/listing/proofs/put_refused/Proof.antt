@@ -15,4 +15,7 @@ same-length : tie.Need-same-length
 same-length c = put-length _ _ _ (returns c)
 
 pub put-refused-spec : {M : Type 1} → statement M
-put-refused-spec = tie.close (tie.spec (λ c κs. tt) (λ c κs. tt) (λ c κs. tt) (search needs) (λ c. omega arith) (search needs) (λ c κs. tt) same-length returns)
+put-refused-spec =
+    tie.close
+    (tie.spec (λ c κs. tt) (λ c κs. tt) (λ c κs. tt) (search needs) (λ c. omega arith) (search needs) (λ c κs. tt)
+    same-length returns)

@@ -24,4 +24,6 @@ same-length-2 : tie.Need-same-length-2
 same-length-2 c = put-length _ _ _ (returns-2 c)
 
 pub put-said-spec : {M : Type 1} → statement M
-put-said-spec = tie.close (tie.spec (search needs) (λ c. omega arith) (λ c κs. tt) same-length returns (λ c κs. tt) same-length-2 returns-2)
+put-said-spec =
+    tie.close
+    (tie.spec (search needs) (λ c. omega arith) (λ c κs. tt) same-length returns (λ c κs. tt) same-length-2 returns-2)

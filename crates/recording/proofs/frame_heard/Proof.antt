@@ -16,4 +16,7 @@ returns-2 c =
     sought _ _ (e .before .fresh .ensures) (e .if1 .left) (p .before .start .ensures) (p .pass-after .ensures) (c .before .next .ensures)
 
 pub frame-heard-spec : {M : Type 1} → statement M
-frame-heard-spec = tie.close (tie.spec (λ c κs. tt) (λ c κs. tt) returns (λ c. omega arith) (λ c κs. tt) pass-after-requires (λ c κs. tt) returns-2)
+frame-heard-spec =
+    tie.close
+    (tie.spec (λ c κs. tt) (λ c κs. tt) returns (λ c. omega arith) (λ c κs. tt) pass-after-requires (λ c κs. tt)
+    returns-2)

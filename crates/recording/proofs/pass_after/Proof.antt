@@ -26,4 +26,7 @@ returns-2 : tie.Need-returns-2 Inv-loop μ-loop
 returns-2 c = going-done (c .before .loop .inv) (c .loop-test .left)
 
 pub pass-after-spec : {M : Type 1} → statement M
-pass-after-spec = tie.close (tie.spec Inv-loop μ-loop loop-holds (λ c κs. tt) returns (λ c. omega arith) (λ c. omega arith) loop-again returns-2)
+pass-after-spec =
+    tie.close
+    (tie.spec Inv-loop μ-loop loop-holds (λ c κs. tt) returns (λ c. omega arith) (λ c. omega arith) loop-again
+    returns-2)

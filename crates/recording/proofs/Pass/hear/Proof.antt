@@ -19,4 +19,6 @@ returns : tie.Need-returns
 returns c = went-past _ (c .before .before .before .before .args .self) _ _ (c .before .of .ensures) (c .past .ensures)
 
 pub hear-spec : {M : Type 1} → statement M
-hear-spec = tie.close (tie.spec add-end (λ c. omega arith) (λ c. omega arith) part-of-end (λ c κs. tt) past-requires returns)
+hear-spec =
+    tie.close
+    (tie.spec add-end (λ c. omega arith) (λ c. omega arith) part-of-end (λ c κs. tt) past-requires returns)
