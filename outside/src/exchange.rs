@@ -18,6 +18,9 @@ const CASE_HEAD: usize = 4;
 const BUFFER_LENGTH: usize = 60;
 const BEFORE: u8 = 170;
 
+/// What is told where there was nothing to hear.
+const NOTHING: usize = 65_536;
+
 /// Reads cases and writes the line of each.
 pub fn answers(cases: &[u8]) -> Vec<u8> {
     let mut out = Vec::new();
@@ -88,7 +91,7 @@ fn frame_heard(out: &mut Vec<u8>, recording: &[u8], k: usize) {
         }
         None => {
             say(out, [0]);
-            told(out, 1, None, None, &state);
+            told(out, 0, Some(NOTHING), None, &state);
         }
     }
 }
@@ -329,10 +332,13 @@ mod tests {
             lines(b'k', &sample, 2),
             format!("15 0 0 656 532 656 532 1 {hz}")
         );
-        assert_eq!(lines(b'k', &sample, 3), format!("0 1 0 0 0 0 0 1 {hz}"));
+        assert_eq!(
+            lines(b'k', &sample, 3),
+            format!("0 0 65536 0 0 0 0 0 1 {hz}")
+        );
         assert_eq!(
             lines(b'k', &sample, 0),
-            format!("0 1 0 0 0 0 0 {}\n", "0 ".repeat(10))
+            format!("0 0 65536 0 0 0 0 0 {}\n", "0 ".repeat(10))
         );
         assert_eq!(lines(b'p', &sample, 14), "14 0 0 3 5 \n");
         assert_eq!(lines(b'p', &sample, 14 + 8192), "38 18 11002 3 6 \n");

@@ -26,16 +26,14 @@ fn heard(values: Values) {
     kept(values.state);
 }
 
-// The outcome's number and what it tells.
+// The refusal's number or 0, and the field that is told, or 65536 where there was nothing to hear.
 fn told(outcome: Outcome) {
+    say::number(outcome.refusal_number() as usize);
     match outcome {
-        Outcome::Heard => say::number(0),
-        Outcome::Nothing => say::number(1),
-        Outcome::TooLarge(field) => {
-            say::number(2);
-            say::number(field);
-        }
-        Outcome::Expansion => say::number(6),
+        Outcome::Heard => {}
+        Outcome::Nothing => say::number(65536),
+        Outcome::TooLarge(field) => say::number(field),
+        Outcome::Expansion => {}
     }
 }
 

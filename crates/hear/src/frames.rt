@@ -48,10 +48,11 @@ fn read_in(out: &mut [u8; 1024], at: usize, reading: Reading) -> usize {
 // The values, or the refusal.
 fn heard(out: &mut [u8; 1024], at: usize, values: Values) -> usize {
     let outcome = values.outcome;
+    let number = outcome.refusal_number();
     match outcome {
         Outcome::Heard => values_in(out, at, values),
-        Outcome::TooLarge(field) => line::told(out, at, b" refused 2", field as u64),
-        Outcome::Expansion => text::put_word(out, at, b" refused 6"),
+        Outcome::TooLarge(_) => line::told(out, at, b" refused", number as u64),
+        Outcome::Expansion => line::told(out, at, b" refused", number as u64),
         Outcome::Nothing => text::put_word(out, at, b" nothing"),
     }
 }
