@@ -31,7 +31,8 @@ lines-none before frames = refl
 
 -- the lines of one frame more
 lines-more : (before : State) (frames : List (List ℕ)) (k : ℕ)
-    → linesTo before frames k ++ frameLine (suc k) (lineOf (frameHeard before frames (suc k))) ≡ linesTo before frames (suc k)
+    → linesTo before frames k ++ frameLine (suc k) (lineOf (frameHeard before frames (suc k)))
+    ≡ linesTo before frames (suc k)
 unfolding linesTo
 lines-more before frames k = refl
 
@@ -46,7 +47,8 @@ listing-start before s o start {p} is h =
           (lines-none before (framesOf s) ∙ ap (linesTo before (framesOf s)) (sym z)) (put-nothing o start h);
     }
 
-module _ {before : State} {s o : List ℕ} {start : ℕ} {o′ : List ℕ} {end : ℕ} {p : Pass} (l : Listing before s o start o′ end p)
+module _ {before : State} {s o : List ℕ} {start : ℕ} {o′ : List ℕ} {end : ℕ} {p : Pass}
+    (l : Listing before s o start o′ end p)
     {t : Step} (is : t ≡ nextOf s p) {o″ : List ℕ} {end′ : ℕ} where
   -- a frame was passed, and its line follows
   pub listing-on : (t .pass .frames ≡ p .frames → ⊥) → {x : Line} → x ≡ lineOf (t .hearing)

@@ -41,7 +41,8 @@ refused-listing-stays s o = ((told, refused), λ w. rw (ne-eqb (length o) room w
   where
     told : refusalOf (cond (eqb (length o) room) (Text (length (listingOf s))) WrongLength) ≡ 1 → length o ≡ room → ⊥
     told e long =
-        let z : refusalOf (cond (eqb (length o) room) (Text (length (listingOf s))) WrongLength) ≡ 0 = rw (eq-eqb (length o) room long) in
+        let z : refusalOf (cond (eqb (length o) room) (Text (length (listingOf s))) WrongLength)
+        ≡ 0 = rw (eq-eqb (length o) room long) in
         omega (arith, e, z)
 
     refused : (length o ≡ room → ⊥)

@@ -22,7 +22,8 @@ use Rattle.listing.specs.Lines.{placeShown, refusedLine}
 use Rattle.listing.proofs.Puts.{Put, put-as, fields-then}
 
 -- the return of `put_pair`
-pub pair-put : (o : List ℕ) (at : ℕ) (first : List ℕ) (m : ℕ) (second : List ℕ) (n : ℕ) {o₁ o₂ o₃ : List ℕ} {at₁ at₂ at₃ : ℕ}
+pub pair-put : (o : List ℕ) (at : ℕ) (first : List ℕ) (m : ℕ) (second : List ℕ) (n : ℕ) {o₁ o₂ o₃ : List ℕ}
+    {at₁ at₂ at₃ : ℕ}
     → Put o at (told first m) at₁ o₁ → Put o₁ at₁ (told second n) at₂ o₂ → Put o₂ at₂ (ascii "\n") at₃ o₃
     → Put o at (pairLine first m second n) at₃ o₃
 unfolding pairLine
@@ -61,10 +62,23 @@ shown t e is = is ∙ ap placeShown (sym e)
 -- the return of `line_of`
 pub line-is : (h : Hearing) {refusal correction : ℕ} → refusal ≡ values.refusalOf (h .values .outcome)
     → correction ≡ correctionNumber (h .reading)
-    → record { correction = correction; refusal = refusal; mark = h .reading .mark; sy = h .reading .indices .sy; delays = h .values .delays }
+    → record {
+      correction = correction;
+      refusal = refusal;
+      mark = h .reading .mark;
+      sy = h .reading .indices .sy;
+      delays = h .values .delays;
+    }
     ≡ lineOf h
 line-is h p q =
-    λ i. record { correction = q i; refusal = p i; mark = h .reading .mark; sy = h .reading .indices .sy; delays = h .values .delays }
+    λ i. record {
+      correction = q i;
+      refusal = p i;
+      mark = h .reading .mark;
+      sy = h .reading .indices .sy;
+      delays =
+          h .values .delays;
+    }
 
 -- the return of `put_line`
 pub line-put : (o : List ℕ) (at n : ℕ) (l : Line) {o₁ o₂ o₃ o₄ : List ℕ} {at₁ at₂ at₃ at₄ : ℕ}

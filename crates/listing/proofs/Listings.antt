@@ -42,7 +42,8 @@ laid-front : (o t : List ℕ) → length t ≤ length o → laid o 0 t ≡ t ++ 
 unfolding laid
 laid-front o t h =
     let z : 0 + length t ≡ length t = omega arith in
-    ap (λ (l : List ℕ). l ++ drop (0 + length t) o) (take-all (length o - 0) t (omega arith)) ∙ ap (λ (n : ℕ). t ++ drop n o) z
+    ap (λ (l : List ℕ). l ++ drop (0 + length t) o) (take-all (length o - 0) t (omega arith))
+    ∙ ap (λ (n : ℕ). t ++ drop n o) z
 
 module _ (s o : List ℕ) (bytes : (i : ℕ) → getD s i 0 < 256) (long : length o ≡ room) where
   -- the whole listing, laid at the start
@@ -51,8 +52,11 @@ module _ (s o : List ℕ) (bytes : (i : ℕ) → getD s i 0 < 256) (long : lengt
   listed-whole {end} {o′} p =
       let f : length (listingOf s) ≤ room = listing-fits s bytes in
       let e : end ≡ length (listingOf s) = omega (arith, p .0) in
-      let l : length (listingOf s) ≤ length o = omega arith in
-      (rw (eq-eqb (length o) room long) (ap Text e), rw (eq-eqb (length o) room long) (p .1 ∙ laid-front o (listingOf s) l))
+      let l : length (listingOf s) ≤ length o = omega arith in (
+        rw (eq-eqb (length o) room long) (ap Text e),
+        rw (eq-eqb (length o) room long)
+            (p .1 ∙ laid-front o (listingOf s) l),
+      )
 
   module _ {w : Walked} (is : w ≡ walkedOf s) where
     text-is : (e : Ending) → w .ending ≡ e → textBy e (soundText (w .walk) (framesOf s)) ≡ listingOf s
@@ -65,12 +69,14 @@ module _ (s o : List ℕ) (bytes : (i : ℕ) → getD s i 0 < 256) (long : lengt
     pub listed-refused : {cause : Cause} → w .ending ≡ Refused cause → {end : ℕ} {o′ : List ℕ}
         → Put o 0 (refusedLine cause) end o′
         → Answered s o (Text end) o′
-    listed-refused {cause} ends p = listed-whole (put-as o 0 (refusedLine cause) (listingOf s) (text-is (Refused cause) ends) p)
+    listed-refused {cause} ends p = listed-whole (put-as o 0 (refusedLine cause) (listingOf s)
+        (text-is (Refused cause) ends) p)
 
     -- a sound one
     pub listed-sound : w .ending ≡ Sound → {end : ℕ} {o′ : List ℕ} → Put o 0 (soundText (w .walk) (framesOf s)) end o′
         → Answered s o (Text end) o′
-    listed-sound ends p = listed-whole (put-as o 0 (soundText (w .walk) (framesOf s)) (listingOf s) (text-is Sound ends) p)
+    listed-sound ends p = listed-whole (put-as o 0 (soundText (w .walk) (framesOf s)) (listingOf s)
+        (text-is Sound ends) p)
 
 -- the return of `put_sound`: the first line, and then the frames, from a fresh state on
 pub sound-put : (o : List ℕ) (w : Walk) (frames : List (List ℕ)) {fresh : State} {begun : Pass} → fresh ≡ freshState

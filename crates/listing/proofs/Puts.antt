@@ -18,7 +18,8 @@ abbrev pub Put : List ℕ → ℕ → List ℕ → ℕ → List ℕ → Type 0
 Put o at t at′ o′ = (at′ ≡ after o at t) × (o′ ≡ laid o at t)
 
 -- the same text, said otherwise
-pub put-as : (o : List ℕ) (at : ℕ) (t u : List ℕ) {at′ : ℕ} {o′ : List ℕ} → t ≡ u → Put o at t at′ o′ → Put o at u at′ o′
+pub put-as : (o : List ℕ) (at : ℕ) (t u : List ℕ) {at′ : ℕ} {o′ : List ℕ} → t ≡ u → Put o at t at′ o′
+    → Put o at u at′ o′
 put-as o at t u e p = (p .0 ∙ ap (after o at) e, p .1 ∙ ap (laid o at) e)
 
 -- nothing, laid within the buffer
@@ -52,13 +53,15 @@ fields-one n = sym (append-nil (ascii " " ++ decimal n))
 pub field-put : (o : List ℕ) (at n : ℕ) {o₁ o₂ : List ℕ} {at₁ at₂ : ℕ} → Put o at (ascii " ") at₁ o₁
     → Put o₁ at₁ (decimal n) at₂ o₂
     → Put o at (fields (n ∷ [])) at₂ o₂
-field-put o at n p q = put-as o at (ascii " " ++ decimal n) (fields (n ∷ [])) (fields-one n) (put-then o at (ascii " ") (decimal n) p q)
+field-put o at n p q = put-as o at (ascii " " ++ decimal n) (fields (n ∷ [])) (fields-one n)
+    (put-then o at (ascii " ") (decimal n) p q)
 
 -- fields laid after fields
 pub fields-then : (o : List ℕ) (at : ℕ) (ms ns : List ℕ) {o₁ o₂ : List ℕ} {at₁ at₂ : ℕ} → Put o at (fields ms) at₁ o₁
     → Put o₁ at₁ (fields ns) at₂ o₂ → Put o at (fields (ms ++ ns)) at₂ o₂
 fields-then o at ms ns p q =
-    put-as o at (fields ms ++ fields ns) (fields (ms ++ ns)) (sym (fields-join ms ns)) (put-then o at (fields ms) (fields ns) p q)
+    put-as o at (fields ms ++ fields ns) (fields (ms ++ ns)) (sym (fields-join ms ns))
+    (put-then o at (fields ms) (fields ns) p q)
 
 -- the loop of `put_fields`: the first k numbers are laid
 pub record Laying (o : List ℕ) (at : ℕ) (ns o′ : List ℕ) (end k : ℕ) : Type 0 where

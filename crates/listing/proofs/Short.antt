@@ -56,14 +56,16 @@ pair-short first m second n a b c d =
 
 last-short : (c : Counts) → c .repaired < 10 ^ 20 → c .breaks < 10 ^ 20 → length (lastLine c) ≤ 1000
 unfolding lastLine
-last-short c a b = let l = pair-short (ascii "repaired ") (c .repaired) (ascii " breaks ") (c .breaks) (omega arith) (omega arith) a b in omega arith
+last-short c a b = let l = pair-short (ascii "repaired ") (c .repaired) (ascii " breaks ") (c .breaks) (omega arith)
+    (omega arith) a b in omega arith
 
 head-short : (w : Walk) → w .heading .unit < 10 ^ 20 → w .heading .number < 10 ^ 20 → w .frames < 10 ^ 20
     → length (headLine w) ≤ 1000
 unfolding headLine
 head-short w a b c =
     let u = decimal-most (w .heading .unit) 20 (omega arith) a in
-    let l = pair-short (ascii " recording ") (w .heading .number) (ascii " frames ") (w .frames) (omega arith) (omega arith) b c in
+    let l = pair-short (ascii " recording ") (w .heading .number) (ascii " frames ") (w .frames) (omega arith)
+    (omega arith) b c in
     simp length-append (omega arith)
 
 refusal-small : (cause : Cause) → refusalOf cause < 10 ^ 20
@@ -81,7 +83,8 @@ refused-short : (cause : Cause) → placeShown (toldOf cause) < 10 ^ 20 → leng
 unfolding refusedLine
 refused-short cause a =
     let l =
-    pair-short (ascii "refused ") (refusalOf cause) (ascii " at ") (placeShown (toldOf cause)) (omega arith) (omega arith)
+    pair-short (ascii "refused ") (refusalOf cause) (ascii " at ") (placeShown (toldOf cause)) (omega arith)
+    (omega arith)
     (refusal-small cause) a in
     omega arith
 
@@ -119,12 +122,14 @@ module _ (before : State) (f : List ℕ) where
       (λ k h. let m = delays-most (readingOf f .indices) before k (omega arith) in omega arith) in
       omega arith
 
-  numbers-short : length (fields (readingOf f .mark ∷ readingOf f .indices .sy ∷ valuesOf (readingOf f .indices) before .delays)) ≤ 24
+  numbers-short : length (fields (readingOf f .mark ∷ readingOf f .indices .sy
+      ∷ valuesOf (readingOf f .indices) before .delays)) ≤ 24
   numbers-short =
       let r = readingOf f in
       let d = valuesOf (r .indices) before .delays in
       let y = field-short (r .indices .sy) 1 d (omega arith) (let s = reading-sync f in omega arith) in
-      let m = field-short (r .mark) 1 (r .indices .sy ∷ d) (omega arith) (let s = reading-range f .marked in omega arith) in
+      let m = field-short (r .mark) 1 (r .indices .sy ∷ d) (omega arith)
+      (let s = reading-range f .marked in omega arith) in
       let l = delays-short in
       omega arith
 
@@ -133,7 +138,8 @@ module _ (before : State) (f : List ℕ) where
   said-short =
       let o = valuesOf (readingOf f .indices) before .outcome in
       chosen (λ (t : List ℕ). length t ≤ 24) (eqb (values.refusalOf o) 0) (λ e. numbers-short)
-      (λ e. let l = decimal-most (values.refusalOf o) 1 (omega arith) (outcome-small o) in simp length-append (omega arith))
+      (λ e. let l = decimal-most (values.refusalOf o) 1 (omega arith) (outcome-small o)
+      in simp length-append (omega arith))
 
   line-short : (n : ℕ) → n < 10 ^ 4 → length (frameLine n (lineOf (hearingOf before f))) ≤ 35
   unfolding frameLine hearingOf

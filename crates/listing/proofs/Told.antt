@@ -93,10 +93,12 @@ module _ (s : List ℕ) (bytes : (i : ℕ) → getD s i 0 < 256) where
   small-on : (w next : Walk) → Small s w → stepOf s w ≡ On next → Small s next
   small-on w next k o =
       let f = step-further s w next o in
-      let m = step-on s w next (λ x. (x .heading .unit < 10 ^ 10) × (x .heading .number < 10 ^ 10)) head (λ size e t. (k .unit, k .number)) o in
+      let m = step-on s w next (λ x. (x .heading .unit < 10 ^ 10) × (x .heading .number < 10 ^ 10)) head
+      (λ size e t. (k .unit, k .number)) o in
       record { within = f .within; few = f .room (k .few); unit = m .0; number = m .1 }
     where
-      head : (h : Heading) → blockAt s (w .at) ≡ Head h → w .headed ≡ false → (h .unit < 10 ^ 10) × (h .number < 10 ^ 10)
+      head : (h : Heading) → blockAt s (w .at) ≡ Head h → w .headed ≡ false → (h .unit < 10 ^ 10)
+          × (h .number < 10 ^ 10)
       head h e t =
           let a = head-held s (w .at) h e .1 in
           (rw a (word-small s bytes (w .at + 6)), rw a (word-small s bytes (w .at + 10)))

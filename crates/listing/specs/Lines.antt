@@ -28,7 +28,8 @@ pairLine first m second n = told first m ++ told second n ++ ascii "\n"
 -- first line: unit, recording number, frames
 unfoldable pub headLine : Walk → List ℕ
 headLine w =
-    told (ascii "unit ") (w .heading .unit) ++ pairLine (ascii " recording ") (w .heading .number) (ascii " frames ") (w .frames)
+    told (ascii "unit ") (w .heading .unit) ++ pairLine (ascii " recording ") (w .heading .number) (ascii " frames ")
+    (w .frames)
 
 -- numbers that follow a field, each one space after the one before
 unfoldable pub fields : List ℕ → List ℕ

@@ -10,7 +10,8 @@ use Rattle.frame.specs.declared.Reading.{Reading}
 use Rattle.frame.specs.declared.Written.{Written}
 use Rattle.frame.specs.declared.Written.the-variants as Written
 use Rattle.frame.proofs.Answered.{accepted-only, left}
-use Rattle.promises.specs.Frames.{Shaped, ReadsBack, WritesBack, SameBits, Made, OfTheFlips, DamageAlone, dataBitOf}
+use Rattle.promises.specs.Frames.{Shaped, ReadsBack, WritesBack, SameBits, Made, OfTheFlips, DamageAlone}
+use Rattle.promises.specs.Frames.{dataBitOf}
 use Rattle.promises.specs.Frames.{OneMended, TwoReported, OneFrame}
 use Rattle.promises.specs.Functions.{Answers, Leaves, WriteThenRead, ReadThenWrite, RepairByDamage, OneFlip}
 use Rattle.promises.specs.Functions.{TwoFlips, NoTwoFrames}

@@ -40,7 +40,8 @@ use Rattle.values.specs.declared.State.{State}
 use Rattle.blocks.specs.Walk.{walkedOf}
 use Rattle.blocks.specs.Refusals.{refusalOf, tellsOf, endingRefusal, endingTells, walkedRefusal, walkedTells}
 use Rattle.blocks.specs.declared.Cause.{Cause}
-use Rattle.blocks.specs.declared.Cause.the-variants.{TooLong, HeaderCut, PastEnd, WrongSize, UnknownKind, OutOfTurn, EndMissing, WrongCount, Extra}
+use Rattle.blocks.specs.declared.Cause.the-variants.{TooLong, HeaderCut, PastEnd, WrongSize, UnknownKind, OutOfTurn}
+use Rattle.blocks.specs.declared.Cause.the-variants.{EndMissing, WrongCount, Extra}
 use Rattle.blocks.specs.declared.Ending.{Ending}
 use Rattle.blocks.specs.declared.Ending.the-variants as Ending
 use Rattle.recording.specs.Judged.{judgedOf, judgedRefusal, judgedTells}
@@ -75,7 +76,8 @@ at-row : (row : ℕ → List ℕ → Type 0) {m k : ℕ} {u t : List ℕ} → ro
 at-row row {m} {k} {u} {t} p (e, f) = subst (row k) f (subst (λ (x : ℕ). row x u) e p)
 
 -- the number and what is told, from the answer
-told : {A : Type 0} (number : A → ℕ) (tells : A → List ℕ) {x a : A} → x ≡ a → (number x ≡ number a) × (tells x ≡ tells a)
+told : {A : Type 0} (number : A → ℕ) (tells : A → List ℕ) {x a : A} → x ≡ a → (number x ≡ number a)
+    × (tells x ≡ tells a)
 told number tells e = (ap number e, ap tells e)
 
 -- the reader: refused where the bytes are not eighteen, and nowhere else
@@ -116,17 +118,21 @@ module _ (r : Record) (n : ℕ) where
   unfolding WriterRefuses
   writer-is a g = writer-refuses r n a .1 g
 
-  writer-at : {k : ℕ} {t : List ℕ} → WriterTable r n k t → (frame.refusalOf (writtenOf r n) ≡ k) × (frame.tellsOf (writtenOf r n) ≡ t)
+  writer-at : {k : ℕ} {t : List ℕ} → WriterTable r n k t → (frame.refusalOf (writtenOf r n) ≡ k)
+      × (frame.tellsOf (writtenOf r n) ≡ t)
   writer-at (write-length w) = told frame.refusalOf frame.tellsOf (writer-is Written.WrongLength w)
   writer-at (write-index f e l) = told frame.refusalOf frame.tellsOf (writer-is (Written.TooLarge f) (e, l))
   writer-at (write-fall m e fit l) = told frame.refusalOf frame.tellsOf (writer-is (Written.Falling m) (e, fit, l))
-  writer-at (write-expansion e fit o s) = told frame.refusalOf frame.tellsOf (writer-is Written.Expansion (e, fit, o, s))
+  writer-at (write-expansion e fit o s) = told frame.refusalOf frame.tellsOf
+      (writer-is Written.Expansion (e, fit, o, s))
   writer-at (write-frame e fit o s) = told frame.refusalOf frame.tellsOf (writer-is Written.Frame (e, fit, o, s))
 
 pub writer-numbers : WriterNumbers
 unfolding WriterNumbers WriterRefuses
-writer-numbers r n k t =
-    (at-row (WriterTable r n) (writer-row r n (writtenOf r n) (writer-refuses r n (writtenOf r n) .0 refl)), writer-at r n)
+writer-numbers r n k t = (
+  at-row (WriterTable r n) (writer-row r n (writtenOf r n) (writer-refuses r n (writtenOf r n) .0 refl)),
+  writer-at r n,
+)
 
 module _ (r : Record) (before : State) where
   abbrev outcome-told : Outcome
@@ -142,7 +148,8 @@ module _ (r : Record) (before : State) where
   unfolding HearingRefuses
   hearing-is o g = hearing-refuses r before o .1 g
 
-  hearing-at : {k : ℕ} {t : List ℕ} → HearingTable r k t → (hearing.refusalOf outcome-told ≡ k) × (hearing.tellsOf outcome-told ≡ t)
+  hearing-at : {k : ℕ} {t : List ℕ} → HearingTable r k t → (hearing.refusalOf outcome-told ≡ k)
+      × (hearing.tellsOf outcome-told ≡ t)
   hearing-at (hear-index f l) = told hearing.refusalOf hearing.tellsOf (hearing-is (TooLarge f) l)
   hearing-at (hear-expansion fit s) = told hearing.refusalOf hearing.tellsOf (hearing-is Expansion (fit, s))
   hearing-at (hear-values fit s) = told hearing.refusalOf hearing.tellsOf (hearing-is Heard (fit, s))
@@ -150,7 +157,8 @@ module _ (r : Record) (before : State) where
 pub hearing-numbers : HearingNumbers
 unfolding HearingNumbers HearingRefuses
 hearing-numbers r before k t = (
-  at-row (HearingTable r) (hearing-row r before (valuesOf r before .outcome) (hearing-refuses r before (valuesOf r before .outcome) .0 refl)),
+  at-row (HearingTable r) (hearing-row r before (valuesOf r before .outcome)
+      (hearing-refuses r before (valuesOf r before .outcome) .0 refl)),
   hearing-at r before,
 )
 
@@ -158,7 +166,8 @@ module _ (indices : List ℕ) where
   abbrev verdict-told : lsp-verdict.Verdict
   verdict-told = hertzOf indices .verdict
 
-  hertz-row : (v : lsp-verdict.Verdict) → HertzGives indices v → HertzTable indices (hertz.refusalOf v) (hertz.tellsOf v)
+  hertz-row : (v : lsp-verdict.Verdict) → HertzGives indices v
+      → HertzTable indices (hertz.refusalOf v) (hertz.tellsOf v)
   hertz-row (Lsp.TooLarge j) l = hertz-index j l
   hertz-row Lsp.Within w = hertz-values w
 
@@ -174,7 +183,8 @@ module _ (indices : List ℕ) where
 pub hertz-numbers : HertzNumbers
 unfolding HertzNumbers HertzRefuses
 hertz-numbers indices k t = (
-  at-row (HertzTable indices) (hertz-row indices (verdict-told indices) (hertz-refuses indices (verdict-told indices) .0 refl)),
+  at-row (HertzTable indices) (hertz-row indices (verdict-told indices)
+      (hertz-refuses indices (verdict-told indices) .0 refl)),
   hertz-at indices,
 )
 
@@ -190,7 +200,8 @@ module _ (a b c d : ℕ) where
   unfolding MeaningRefuses
   meaning-is m g = meaning-refuses a b c d m .1 g
 
-  meaning-at : {k : ℕ} {t : List ℕ} → MeaningTable a b c d k t → (delay.meantRefusal meant ≡ k) × (delay.meantTells meant ≡ t)
+  meaning-at : {k : ℕ} {t : List ℕ} → MeaningTable a b c d k t → (delay.meantRefusal meant ≡ k)
+      × (delay.meantTells meant ≡ t)
   meaning-at (meaning-index n l) = told delay.meantRefusal delay.meantTells (meaning-is (Meant.TooLarge n) l)
   meaning-at (meaning-delays w x y z m) = told delay.meantRefusal delay.meantTells (meaning-is (Meant.Delays w x y z) m)
 
@@ -221,8 +232,10 @@ module _ (a b c d : ℕ) where
 
 pub delay-numbers : DelayNumbers
 unfolding DelayNumbers DelaysRefuse
-delay-numbers a b c d k t =
-    (at-row (DelayTable a b c d) (delay-row a b c d (coded a b c d) (delays-refuse a b c d (coded a b c d) .0 refl)), delay-at a b c d)
+delay-numbers a b c d k t = (
+  at-row (DelayTable a b c d) (delay-row a b c d (coded a b c d) (delays-refuse a b c d (coded a b c d) .0 refl)),
+  delay-at a b c d,
+)
 
 module _ (index n : ℕ) where
   code-row : (a : code-written.Written) → CodeGives index n a → CodeTable index n (code.refusalOf a) (code.tellsOf a)
@@ -234,18 +247,23 @@ module _ (index n : ℕ) where
   unfolding CodeRefuses
   code-is a g = code-refuses index n a .1 g
 
-  code-at : {k : ℕ} {t : List ℕ} → CodeTable index n k t → (code.refusalOf (code.writtenOf index n) ≡ k) × (code.tellsOf (code.writtenOf index n) ≡ t)
+  code-at : {k : ℕ} {t : List ℕ} → CodeTable index n k t → (code.refusalOf (code.writtenOf index n) ≡ k)
+      × (code.tellsOf (code.writtenOf index n) ≡ t)
   code-at (code-length w) = told code.refusalOf code.tellsOf (code-is Code.WrongLength w)
   code-at (code-index e h) = told code.refusalOf code.tellsOf (code-is Code.TooLarge (e, h))
   code-at (code-elements e h) = told code.refusalOf code.tellsOf (code-is Code.Code (e, h))
 
 pub code-numbers : CodeNumbers
 unfolding CodeNumbers CodeRefuses
-code-numbers index n k t =
-    (at-row (CodeTable index n) (code-row index n (code.writtenOf index n) (code-refuses index n (code.writtenOf index n) .0 refl)), code-at index n)
+code-numbers index n k t = (
+  at-row (CodeTable index n) (code-row index n (code.writtenOf index n)
+      (code-refuses index n (code.writtenOf index n) .0 refl)),
+  code-at index n,
+)
 
 module _ (table : List ℤ) (index : ℕ) where
-  gain-at : {k : ℕ} {t : List ℕ} → GainTable index k t → (gain.refusalOf (gainOf table index) ≡ k) × (gain.tellsOf (gainOf table index) ≡ t)
+  gain-at : {k : ℕ} {t : List ℕ} → GainTable index k t → (gain.refusalOf (gainOf table index) ≡ k)
+      × (gain.tellsOf (gainOf table index) ≡ t)
   gain-at (gain-index h) = told gain.refusalOf gain.tellsOf (gain-too-large table index h)
   gain-at (gain-entry h) = told gain.refusalOf gain.tellsOf (gain-value table index h)
 
@@ -279,10 +297,12 @@ module _ (s : List ℕ) where
       go (Judged.Sound x) e = rw e (sound (sound-exactly s .0 (x, e)))
       go (Judged.Refused c) e = rw e (cause-row c (refused-exactly s c .0 e))
 
-  refused-at : (c : Cause) → Given s c → (judgedRefusal (judgedOf s) ≡ refusalOf c) × (judgedTells (judgedOf s) ≡ tellsOf c)
+  refused-at : (c : Cause) → Given s c → (judgedRefusal (judgedOf s) ≡ refusalOf c)
+      × (judgedTells (judgedOf s) ≡ tellsOf c)
   refused-at c g = told judgedRefusal judgedTells (refused-exactly s c .1 g)
 
-  recording-at : {k : ℕ} {t : List ℕ} → RecordingTable s k t → (judgedRefusal (judgedOf s) ≡ k) × (judgedTells (judgedOf s) ≡ t)
+  recording-at : {k : ℕ} {t : List ℕ} → RecordingTable s k t → (judgedRefusal (judgedOf s) ≡ k)
+      × (judgedTells (judgedOf s) ≡ t)
   recording-at (too-long g) = refused-at TooLong g
   recording-at (header-cut p g) = refused-at (HeaderCut p) g
   recording-at (past-end p g) = refused-at (PastEnd p) g
@@ -295,11 +315,13 @@ module _ (s : List ℕ) where
   recording-at (sound a) = told judgedRefusal judgedTells (sound-exactly s .1 a .1)
 
   -- judging refuses as walking through does
-  same-refusal : (judgedRefusal (judgedOf s) ≡ walkedRefusal (walkedOf s)) × (judgedTells (judgedOf s) ≡ walkedTells (walkedOf s))
+  same-refusal : (judgedRefusal (judgedOf s) ≡ walkedRefusal (walkedOf s))
+      × (judgedTells (judgedOf s) ≡ walkedTells (walkedOf s))
   same-refusal = go (walkedOf s .ending) refl
     where
       go : (x : Ending) → walkedOf s .ending ≡ x
-          → (judgedRefusal (judgedOf s) ≡ walkedRefusal (walkedOf s)) × (judgedTells (judgedOf s) ≡ walkedTells (walkedOf s))
+          → (judgedRefusal (judgedOf s) ≡ walkedRefusal (walkedOf s))
+          × (judgedTells (judgedOf s) ≡ walkedTells (walkedOf s))
       go Ending.Sound e = (
         ap judgedRefusal (walked-judged s Ending.Sound e) ∙ sym (ap endingRefusal e),
         ap judgedTells (walked-judged s Ending.Sound e) ∙ sym (ap endingTells e),
@@ -351,8 +373,10 @@ module _ (s o : List ℕ) where
 
 pub read-result-numbers : ReadResultNumbers
 unfolding ReadResultNumbers
-read-result-numbers s o z =
-    (λ e. subst (ReadResults s o) e (c-read-row s o (ℕ-discrete (length s) 18) (ℕ-discrete (length o) 56)), c-read-at s o)
+read-result-numbers s o z = (
+  λ e. subst (ReadResults s o) e (c-read-row s o (ℕ-discrete (length s) 18) (ℕ-discrete (length o) 56)),
+  c-read-at s o,
+)
 
 -- the writer at the C boundary: the record's length, then as the writer answers
 module _ (s o : List ℕ) where

@@ -1,4 +1,5 @@
--- The refusals of frames, records, delays and codes, shown: the answer meets its own condition, and no other answer's is met.
+-- The refusals of frames, records, delays and codes, shown: the answer meets its own condition, and no other answer's
+-- is met.
 -- Assumes nothing.
 use mathlib.Core.Path.{_≡_, _∙_, sym, refl, ap, subst}
 use mathlib.Core.Bool.{Bool, true, false, cond, true≢false}
@@ -34,7 +35,8 @@ use Rattle.codebook.specs.Code as code
 use Rattle.codebook.specs.declared.Written as code-written
 use Rattle.codebook.specs.declared.Written.the-variants as Code
 use Rattle.frame.specs.Frame.{frameOf}
-use Rattle.frame.specs.Answers.{recordMark, readingOf, correctionNumber, readRefusal, writtenOf, leftBy, frameLeft, refusalOf}
+use Rattle.frame.specs.Answers.{recordMark, readingOf, correctionNumber, readRefusal, writtenOf, leftBy, frameLeft}
+use Rattle.frame.specs.Answers.{refusalOf}
 use Rattle.frame.specs.declared.Reading.{Reading}
 use Rattle.frame.specs.declared.Verdict.{Verdict}
 use Rattle.frame.specs.declared.Verdict.the-variants as Verdict
@@ -45,7 +47,8 @@ use Rattle.values.specs.Outcome.{outcomeOf}
 use Rattle.values.specs.Outcome as outcome
 use Rattle.values.specs.declared.Outcome.{Outcome}
 use Rattle.values.specs.declared.Outcome.the-variants.{Heard, TooLarge, Expansion, Nothing}
-use Rattle.values.proofs.Laws.{by-outcome, outcome-too-large, outcome-expansion, outcome-heard, values-outcome, refused-state}
+use Rattle.values.proofs.Laws.{by-outcome, outcome-too-large, outcome-expansion, outcome-heard, values-outcome}
+use Rattle.values.proofs.Laws.{refused-state}
 use Rattle.values.proofs.Laws.{nothing-outcome, nothing-state, bits-are-widths}
 use Rattle.gateway.specs.Pairs.{recordIn}
 use Rattle.gateway.specs.Results.{refused, readAnswer, readResult, readInto, recordLeft, writeResult, frameLeftBy}
@@ -55,7 +58,8 @@ use Rattle.promises.specs.Refused.{HearingGives, HearingRefuses, Refused
 use Rattle.promises.specs.Refused.{AllWithin, LowestOver, HertzGives, HertzRefuses}
 use Rattle.promises.specs.Refused.{FirstTooLarge, first-large, second-large, third-large, fourth-large}
 use Rattle.promises.specs.Refused.{Means, MeaningGives, MeaningRefuses, Listed, Follows}
-use Rattle.promises.specs.Refused.{FirstNotListed, first-unlisted, second-unlisted, third-unlisted, fourth-unlisted}
+use Rattle.promises.specs.Refused.{FirstNotListed, first-unlisted, second-unlisted, third-unlisted}
+use Rattle.promises.specs.Refused.{fourth-unlisted}
 use Rattle.promises.specs.Refused.{FirstOutside, second-outside, fourth-outside, CodingGives, DelaysRefuse}
 use Rattle.promises.specs.Refused.{CodeGives, CodeRefuses, RefusedCodeStays}
 
@@ -65,7 +69,8 @@ reader-refuses s = (short, told)
   where
     short : readRefusal (readingOf s .verdict) ≡ 1 → length s ≡ 18 → ⊥
     short e long =
-        let z : readRefusal (readingOf s .verdict) ≡ 0 = ap (λ (x : Reading). readRefusal (x .verdict)) (read-eighteen s long) in
+        let z : readRefusal (readingOf s .verdict) ≡ 0 =
+        ap (λ (x : Reading). readRefusal (x .verdict)) (read-eighteen s long) in
         omega arith
 
     told : (length s ≡ 18 → ⊥) → readRefusal (readingOf s .verdict) ≡ 1
@@ -115,7 +120,8 @@ module _ (r : Record) (n : ℕ) where
 
       rising : n ≡ 18 → tooLarge r ≡ 0 → Dec (recordMark r ≡ 0) → WriterGives r n (writtenOf r n)
       rising e z (yes m) = unset e z m (ℕ-discrete (r .sp) 0)
-      rising e z (no w) = subst (WriterGives r n) (falling r n e z (recordMark r) refl w) (e, none-too-large r z, lowest-fall r w)
+      rising e z (no w) = subst (WriterGives r n) (falling r n e z (recordMark r) refl w)
+          (e, none-too-large r z, lowest-fall r w)
 
       fitting : n ≡ 18 → Dec (tooLarge r ≡ 0) → WriterGives r n (writtenOf r n)
       fitting e (yes z) = rising e z (ℕ-discrete (recordMark r) 0)
@@ -156,7 +162,8 @@ refused-frame-stays r s w = refused-left (writtenOf r (length s)) (frameOf r) s 
 -- hearing
 hearing-gives : (r : Record) → HearingGives r (outcomeOf r)
 hearing-gives r =
-    by-outcome r (HearingGives r) (λ z s. (none-too-large r z, s)) (λ h. lowest-large r (λ z. omega arith)) (λ z s. (none-too-large r z, s))
+    by-outcome r (HearingGives r) (λ z s. (none-too-large r z, s)) (λ h. lowest-large r (λ z. omega arith))
+    (λ z s. (none-too-large r z, s))
 
 -- and no outcome is answered whose condition is not met
 hearing-only : (r : Record) (o : Outcome) → HearingGives r o → outcomeOf r ≡ o
@@ -170,8 +177,11 @@ hearing-only r Nothing g = absurd g
 
 pub hearing-refuses : HearingRefuses
 unfolding HearingRefuses
-hearing-refuses r before o =
-    (λ e. subst (HearingGives r) (sym (values-outcome r before) ∙ e) (hearing-gives r), λ g. values-outcome r before ∙ hearing-only r o g)
+hearing-refuses r before o = (
+  λ e. subst (HearingGives r) (sym (values-outcome r before) ∙ e) (hearing-gives r),
+  λ g. values-outcome r before
+      ∙ hearing-only r o g,
+)
 
 pub refused-state-stays : RefusedStateStays
 unfolding RefusedStateStays
@@ -217,9 +227,11 @@ module _ (indices : List ℕ) where
   hertz-gives = fitting (ℕ-discrete (hertz.tooLarge indices) 0)
     where
       fitting : Dec (hertz.tooLarge indices ≡ 0) → HertzGives indices (hertzOf indices .verdict)
-      fitting (yes z) = subst (λ (h : Hertz). HertzGives indices (h .verdict)) (sym (lsps.hertz-given indices z)) (all-within z)
+      fitting (yes z) = subst (λ (h : Hertz). HertzGives indices (h .verdict)) (sym (lsps.hertz-given indices z))
+          (all-within z)
       fitting (no w) =
-          subst (λ (h : Hertz). HertzGives indices (h .verdict)) (sym (lsps.hertz-refused indices (omega (arith, w)))) (lowest-over w)
+          subst (λ (h : Hertz). HertzGives indices (h .verdict)) (sym (lsps.hertz-refused indices (omega (arith, w))))
+          (lowest-over w)
 
   -- and no other verdict's is met
   hertz-only : (v : lsp-verdict.Verdict) → HertzGives indices v → hertzOf indices .verdict ≡ v
@@ -268,7 +280,16 @@ module _ (a b c d : ℕ) where
       four e f g (no h) = told (fourth-large e f g (omega (arith, h)))
       four e f g (yes h) =
           let m : Means a b c d _ _ _ _ =
-          record { byte = e; step = f; next-byte = g; next-step = h; first = refl; second = refl; third = refl; fourth = refl } in
+          record {
+            byte = e;
+            step = f;
+            next-byte = g;
+            next-step = h;
+            first = refl;
+            second = refl;
+            third = refl;
+            fourth = refl;
+          } in
           subst (MeaningGives a b c d) (sym (means-only m)) m
 
       three : a ≤ 255 → b ≤ 63 → Dec (c ≤ 255) → MeaningGives a b c d (meantBy codes-given)
@@ -324,13 +345,18 @@ module _ (a b : ℕ) (second : Listed b) where
   -- a rank in the window is meant by some six-bit code
   follows-yes : inWindow (rankWith a) (rankWith b) ≡ true → Follows a b
   follows-yes e =
-      let s = window-step (rankWith a) (rankWith b) e in
-      (rankWith b - baseOf (rankWith a), s .0, ap twelfthsOf (s .1) ∙ twelfths-rank b (ltb-true (rankWith b) 256 (listed-test b second)))
+      let s = window-step (rankWith a) (rankWith b) e in (
+        rankWith b - baseOf (rankWith a),
+        s .0,
+        ap twelfthsOf (s .1)
+            ∙ twelfths-rank b (ltb-true (rankWith b) 256 (listed-test b second)),
+      )
 
   -- and a delay that some six-bit code means is in the window
   follows-test : Follows a b → inWindow (rankWith a) (rankWith b) ≡ true
   follows-test (step, h, e) =
-      ap (inWindow (rankWith a)) (ap rankWith (sym e) ∙ rank-twelfths (afterOf (rankWith a) step) (after-below (rankWith a) step h))
+      ap (inWindow (rankWith a)) (ap rankWith (sym e) ∙
+      rank-twelfths (afterOf (rankWith a) step) (after-below (rankWith a) step h))
       ∙ after-in (rankWith a) step h
 
   -- outside the window no code means it
@@ -362,7 +388,8 @@ module _ (a b c d : ℕ) where
   refused-second e f = rw (e, f)
 
   -- the second is outside the window of the first
-  outside-second : listed a ≡ true → listed b ≡ true → inWindow (rankWith a) (rankWith b) ≡ false → codedOf delays-given ≡ OutsideWindow 2
+  outside-second : listed a ≡ true → listed b ≡ true → inWindow (rankWith a) (rankWith b) ≡ false
+      → codedOf delays-given ≡ OutsideWindow 2
   unfolding codedOf
   outside-second e f g = rw (e, f, g)
 
@@ -375,12 +402,14 @@ module _ (a b c d : ℕ) where
     unfolding codedOf
     refused-fourth e f = rw (one, two, near, e, f)
 
-    outside-fourth : listed c ≡ true → listed d ≡ true → inWindow (rankWith c) (rankWith d) ≡ false → codedOf delays-given ≡ OutsideWindow 4
+    outside-fourth : listed c ≡ true → listed d ≡ true → inWindow (rankWith c) (rankWith d) ≡ false
+        → codedOf delays-given ≡ OutsideWindow 4
     unfolding codedOf
     outside-fourth e f g = rw (one, two, near, e, f, g)
 
     all-sent : listed c ≡ true → listed d ≡ true → inWindow (rankWith c) (rankWith d) ≡ true
-        → codedOf delays-given ≡ Codes (printedByte (rankWith a)) (rankWith b - baseOf (rankWith a)) (printedByte (rankWith c)) (rankWith d - baseOf (rankWith c))
+        → codedOf delays-given ≡ Codes (printedByte (rankWith a)) (rankWith b - baseOf (rankWith a))
+        (printedByte (rankWith c)) (rankWith d - baseOf (rankWith c))
     unfolding codedOf
     all-sent e f g = rw (one, two, near, e, f, g)
 
@@ -392,30 +421,37 @@ module _ (a b c d : ℕ) where
   coding-gives : CodingGives a b c d (codedOf delays-given)
   coding-gives = first (listed a) refl
     where
-      last : listed a ≡ true → listed b ≡ true → inWindow (rankWith a) (rankWith b) ≡ true → listed c ≡ true → listed d ≡ true
+      last : listed a ≡ true → listed b ≡ true → inWindow (rankWith a) (rankWith b) ≡ true → listed c ≡ true → listed d
+          ≡ true
           → (t : Bool) → inWindow (rankWith c) (rankWith d) ≡ t → Given (codedOf delays-given)
       last e f g h i false j =
           subst Given (sym (outside-fourth e f g h i j))
-          (fourth-outside (listed-yes a e) (listed-yes b f) (follows-yes a b (listed-yes b f) g) (listed-yes c h) (listed-yes d i)
+          (fourth-outside (listed-yes a e) (listed-yes b f) (follows-yes a b (listed-yes b f) g) (listed-yes c h)
+          (listed-yes d i)
           (follows-no c d (listed-yes d i) j))
-      last e f g h i true j = subst Given (sym (all-sent e f g h i j)) (delays-back a b c d _ _ _ _ (all-sent e f g h i j))
+      last e f g h i true j = subst Given (sym (all-sent e f g h i j))
+          (delays-back a b c d _ _ _ _ (all-sent e f g h i j))
 
       fourth : listed a ≡ true → listed b ≡ true → inWindow (rankWith a) (rankWith b) ≡ true → listed c ≡ true
           → (t : Bool) → listed d ≡ t → Given (codedOf delays-given)
       fourth e f g h false i =
           subst Given (sym (refused-fourth e f g h i))
-          (fourth-unlisted (listed-yes a e) (listed-yes b f) (follows-yes a b (listed-yes b f) g) (listed-yes c h) (listed-no d i))
+          (fourth-unlisted (listed-yes a e) (listed-yes b f) (follows-yes a b (listed-yes b f) g) (listed-yes c h)
+          (listed-no d i))
       fourth e f g h true i = last e f g h i (inWindow (rankWith c) (rankWith d)) refl
 
-      third : listed a ≡ true → listed b ≡ true → inWindow (rankWith a) (rankWith b) ≡ true → (t : Bool) → listed c ≡ t → Given (codedOf delays-given)
+      third : listed a ≡ true → listed b ≡ true → inWindow (rankWith a) (rankWith b) ≡ true → (t : Bool) → listed c ≡ t
+          → Given (codedOf delays-given)
       third e f g false h =
           subst Given (sym (refused-third e f g h))
           (third-unlisted (listed-yes a e) (listed-yes b f) (follows-yes a b (listed-yes b f) g) (listed-no c h))
       third e f g true h = fourth e f g h (listed d) refl
 
-      near : listed a ≡ true → listed b ≡ true → (t : Bool) → inWindow (rankWith a) (rankWith b) ≡ t → Given (codedOf delays-given)
+      near : listed a ≡ true → listed b ≡ true → (t : Bool) → inWindow (rankWith a) (rankWith b) ≡ t
+          → Given (codedOf delays-given)
       near e f false g =
-          subst Given (sym (outside-second e f g)) (second-outside (listed-yes a e) (listed-yes b f) (follows-no a b (listed-yes b f) g))
+          subst Given (sym (outside-second e f g)) (second-outside (listed-yes a e) (listed-yes b f)
+          (follows-no a b (listed-yes b f) g))
       near e f true g = third e f g (listed c) refl
 
       second : listed a ≡ true → (t : Bool) → listed b ≡ t → Given (codedOf delays-given)
@@ -430,7 +466,8 @@ module _ (a b c d : ℕ) where
   not-listed-only : {n : ℕ} → FirstNotListed a b c d n → codedOf delays-given ≡ NotListed n
   not-listed-only (first-unlisted w) = refused-first (unlisted-test a w)
   not-listed-only (second-unlisted p w) = refused-second (listed-test a p) (unlisted-test b w)
-  not-listed-only (third-unlisted p q f w) = refused-third (listed-test a p) (listed-test b q) (follows-test a b q f) (unlisted-test c w)
+  not-listed-only (third-unlisted p q f w) = refused-third (listed-test a p) (listed-test b q) (follows-test a b q f)
+      (unlisted-test c w)
   not-listed-only (fourth-unlisted p q f s w) =
       refused-fourth (listed-test a p) (listed-test b q) (follows-test a b q f) (listed-test c s) (unlisted-test d w)
 
@@ -438,7 +475,8 @@ module _ (a b c d : ℕ) where
   outside-only : {n : ℕ} → FirstOutside a b c d n → codedOf delays-given ≡ OutsideWindow n
   outside-only (second-outside p q w) = outside-second (listed-test a p) (listed-test b q) (outside-test a b q w)
   outside-only (fourth-outside p q f s t w) =
-      outside-fourth (listed-test a p) (listed-test b q) (follows-test a b q f) (listed-test c s) (listed-test d t) (outside-test c d t w)
+      outside-fourth (listed-test a p) (listed-test b q) (follows-test a b q f) (listed-test c s) (listed-test d t)
+      (outside-test c d t w)
 
   -- so no answer is given whose condition is not met
   coding-only : (x : Coded) → CodingGives a b c d x → codedOf delays-given ≡ x
@@ -473,7 +511,8 @@ unfolding CodeRefuses
 code-refuses index n a = (λ e. subst (CodeGives index n) e (code-gives index n), code-only index n a)
 
 -- a refusal leaves what the buffer held
-code-left : (a : code-written.Written) (index : ℕ) (l : List ℤ) → (code.refusalOf a ≡ 0 → ⊥) → code.leftAfter a index l ≡ l
+code-left : (a : code-written.Written) (index : ℕ) (l : List ℤ) → (code.refusalOf a ≡ 0 → ⊥) → code.leftAfter a index l
+    ≡ l
 code-left Code.Code index l w = absurd (w refl)
 code-left Code.WrongLength index l w = refl
 code-left Code.TooLarge index l w = refl
@@ -491,7 +530,8 @@ refused-read-stays s o = sized (eqb (length o) 56)
     told a Verdict.Read e w = absurd (w (16 * a .mark + correctionNumber a) (rw e))
     told a Verdict.WrongLength e w = rw e
 
-    sized : (t : Bool) → ((n : ℕ) → unless t (refused 1) (readAnswer (readingOf s)) ≡ pos n → ⊥) → unless t o (readInto (readingOf s) o) ≡ o
+    sized : (t : Bool) → ((n : ℕ) → unless t (refused 1) (readAnswer (readingOf s)) ≡ pos n → ⊥)
+        → unless t o (readInto (readingOf s) o) ≡ o
     sized true w = told (readingOf s) (readingOf s .verdict) refl w
     sized false w = refl
 

@@ -189,12 +189,14 @@ three = only (21 ∷ 51 ∷ 11 ∷ [])
 
 -- their number is 0
 three-number : correctionNumber (readingOf three) ≡ 0
-unfolding three lowestFrom tabulateFrom total fromBits places seek guardedPlace number mended placeAt bitAt packed indexIn readingOf recordMark hzTable hertzOf markOf
+unfolding three lowestFrom tabulateFrom total fromBits places seek guardedPlace number mended placeAt bitAt packed
+    indexIn readingOf recordMark hzTable hertzOf markOf
 three-number = refl
 
 -- and PD(1)-5 is read as 1
 three-bit : readBit three 11 5 ≡ 1
-unfolding three lowestFrom tabulateFrom total fromBits places seek guardedPlace number mended placeAt bitAt packed indexIn readingOf recordMark hzTable hertzOf markOf
+unfolding three lowestFrom tabulateFrom total fromBits places seek guardedPlace number mended placeAt bitAt packed
+    indexIn readingOf recordMark hzTable hertzOf markOf
 three-bit = refl
 
 -- a place is in a list or not

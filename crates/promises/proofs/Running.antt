@@ -26,7 +26,8 @@ pass-counts before s k = (λ h. through.pass-counts before s k h, λ h. through.
 
 -- the state is the same, since it went through the same frames, and so is the frame
 pub so-far-alone : SoFarAlone
-so-far-alone before s t zero a b e = heard-before-first before (framesOf s) ∙ sym (heard-before-first before (framesOf t))
+so-far-alone before s t zero a b e = heard-before-first before (framesOf s)
+    ∙ sym (heard-before-first before (framesOf t))
 so-far-alone before s t (suc k) a b e =
     heard-there before (framesOf s) k a
     ∙ ap₂ hearingOf (ap (stateThrough before) passed) present
@@ -40,4 +41,5 @@ so-far-alone before s t (suc k) a b e =
     present : getD (framesOf s) k [] ≡ getD (framesOf t) k []
     present =
         let l : k < suc k = omega arith in
-        sym (getD-take (suc k) (framesOf s) k [] l) ∙ ap (λ (x : List (List ℕ)). getD x k []) e ∙ getD-take (suc k) (framesOf t) k [] l
+        sym (getD-take (suc k) (framesOf s) k [] l) ∙ ap (λ (x : List (List ℕ)). getD x k []) e
+        ∙ getD-take (suc k) (framesOf t) k [] l

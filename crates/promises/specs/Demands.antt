@@ -1,7 +1,9 @@
--- The three demands, in the words of the person this is built for, and under each the statements that meet it. A reviewer starts here:
+-- The three demands, in the words of the person this is built for, and under each the statements that meet it. A
+-- reviewer starts here:
 -- each name below is a statement of the file beside it, and proofs/Demands.antt holds a proof of every one.
 use Rattle.listing.specs.Promised.{ListingFits, ListingStands, RefusedListingStays}
-use Rattle.promises.specs.Frames.{ReadsBack, SameBits, DamageAlone, OneMended, TwoReported, EveryFrameRead, OneFrame, SixteenFrames}
+use Rattle.promises.specs.Frames.{ReadsBack, SameBits, DamageAlone, OneMended, TwoReported, EveryFrameRead}
+use Rattle.promises.specs.Frames.{OneFrame, SixteenFrames}
 use Rattle.promises.specs.Functions.{WriteThenRead, ReadThenWrite, RepairByDamage, OneFlip, TwoFlips, NoTwoFrames}
 use Rattle.promises.specs.Refused.{ReaderRefuses, WriterRefuses, RefusedFrameStays, RefusedReadStays}
 use Rattle.promises.specs.Refused.{RefusedWriteStays, HearingRefuses, RefusedStateStays, NothingStays}
@@ -23,12 +25,16 @@ use Rattle.promises.specs.Parts.{RepairsCounted, BreaksCounted, RefusedH
 use Rattle.promises.specs.Running.{StateRunsOn, NothingBeyond, PassHears, PassCounts, SoFarAlone}
 use Rattle.promises.specs.Worked.{AllTwelve}
 
--- "Every frame, record or recording, however damaged, gets an answer and the call ends. A frame that isn't eighteen bytes, an index too
--- large for its field, a record to write whose line spectral parameters fall, a delay that can't be sent, a set expansion bit in a record
--- to write or to hear, or a broken recording is refused by its number, no caller has to look first, and a refusal writes nothing into any
+-- "Every frame, record or recording, however damaged, gets an answer and the call ends. A frame that isn't eighteen
+-- bytes, an index too
+-- large for its field, a record to write whose line spectral parameters fall, a delay that can't be sent, a set
+-- expansion bit in a record
+-- to write or to hear, or a broken recording is refused by its number, no caller has to look first, and a refusal
+-- writes nothing into any
 -- buffer lent to us."
 --
--- That each call ends, and what it answers and leaves on every input, is the contract of each function, none of which has a `requires`.
+-- That each call ends, and what it answers and leaves on every input, is the contract of each function, none of which
+-- has a `requires`.
 -- Here it is said when each refusal is given, and that it writes nothing.
 pub record DemandOne : Type 0 where
   -- frames, records, delays, codes
@@ -68,8 +74,10 @@ pub record DemandOne : Type 0 where
   pub empty-refused : EmptyRefused
   pub refused-listing-stays : RefusedListingStays
 
--- "Reading and writing are those of Federal Standard 1016: the 144 places, the parity, the gains, delays, averaged parameters and 512
--- ternary codes. A record the writer accepts reads back equal. A frame that is read writes back to the same bits exactly when its parity
+-- "Reading and writing are those of Federal Standard 1016: the 144 places, the parity, the gains, delays, averaged
+-- parameters and 512
+-- ternary codes. A record the writer accepts reads back equal. A frame that is read writes back to the same bits
+-- exactly when its parity
 -- was clean, its expansion bit 0 and its parameters in order."
 pub record DemandTwo : Type 0 where
   -- frames
@@ -130,9 +138,12 @@ pub record DemandTwo : Type 0 where
   pub listing-fits : ListingFits
   pub listing-stands : ListingStands
 
--- "Take a frame our writer made and flip any set of its bits. The indices then read are the written ones, with exactly those bits
--- reversed that come out as 1 when the flips alone are read as a frame; the correction number reported is the one for the flips alone. If
--- no more than one of the fifteen guarded places was flipped, none of the eleven guarded data bits differs. Two are always reported."
+-- "Take a frame our writer made and flip any set of its bits. The indices then read are the written ones, with exactly
+-- those bits
+-- reversed that come out as 1 when the flips alone are read as a frame; the correction number reported is the one for
+-- the flips alone. If
+-- no more than one of the fifteen guarded places was flipped, none of the eleven guarded data bits differs. Two are
+-- always reported."
 pub record DemandThree : Type 0 where
   -- the flips alone
   pub damage-alone : DamageAlone

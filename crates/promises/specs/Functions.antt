@@ -19,7 +19,8 @@ use Rattle.frame.proofs.read.Kinds as read
 use Rattle.frame.proofs.read.Reads as read-reads
 use Rattle.frame.proofs.write.Kinds as write
 use Rattle.frame.proofs.write.Reads as write-reads
-use Rattle.promises.specs.Frames.{Shaped, Eighteen, flipped, OfTheFlips, DataBit, dataBitOf, AtMostOne, ExactlyTwo}
+use Rattle.promises.specs.Frames.{Shaped, Eighteen, flipped, OfTheFlips, DataBit, dataBitOf, AtMostOne}
+use Rattle.promises.specs.Frames.{ExactlyTwo}
 
 -- `read`, lent the bytes s, may answer d
 pub record Answers (s : List ℕ) (d : Reading) : Type 0 where

@@ -1,5 +1,7 @@
--- The table of document 01, "Refusal numbers": for each answer its refusal's number, when it is given, and what it tells. A row is a
--- number, a list of what is told, and the condition; 0 is no refusal. An answer has a number and tells a list exactly when such a row
+-- The table of document 01, "Refusal numbers": for each answer its refusal's number, when it is given, and what it
+-- tells. A row is a
+-- number, a list of what is told, and the condition; 0 is no refusal. An answer has a number and tells a list exactly
+-- when such a row
 -- is met, so that a renumbering moves a row and the definition of the number, and no condition.
 use mathlib.Core.Path.{_≡_}
 use mathlib.Core.List.{List, [], _∷_}
@@ -22,7 +24,8 @@ use Rattle.values.specs.Values.{valuesOf}
 use Rattle.values.specs.declared.State.{State}
 use Rattle.blocks.specs.Walk.{walkedOf}
 use Rattle.blocks.specs.Refusals.{walkedRefusal, walkedTells}
-use Rattle.blocks.specs.declared.Cause.the-variants.{TooLong, HeaderCut, PastEnd, WrongSize, UnknownKind, OutOfTurn, EndMissing, WrongCount, Extra}
+use Rattle.blocks.specs.declared.Cause.the-variants.{TooLong, HeaderCut, PastEnd, WrongSize, UnknownKind, OutOfTurn}
+use Rattle.blocks.specs.declared.Cause.the-variants.{EndMissing, WrongCount, Extra}
 use Rattle.recording.specs.Judged.{judgedOf, judgedRefusal, judgedTells}
 use Rattle.gateway.specs.Pairs.{recordIn}
 use Rattle.gateway.specs.Results.{readResult, writeResult}
@@ -38,7 +41,8 @@ pub data ReaderTable (s : List ℕ) : ℕ → List ℕ → Type 0 where
 unfoldable pub ReaderNumbers : Type 0
 ReaderNumbers =
     (s : List ℕ) (k : ℕ) (t : List ℕ)
-    → ((frame.readRefusal (readingOf s .verdict) ≡ k) × (frame.readTells (readingOf s .verdict) ≡ t)) ↔ ReaderTable s k t
+    → ((frame.readRefusal (readingOf s .verdict) ≡ k) × (frame.readTells (readingOf s .verdict) ≡ t)) ↔ ReaderTable s k
+    t
 
 -- a record to write, into a buffer of n bytes
 pub data WriterTable (r : Record) (n : ℕ) : ℕ → List ℕ → Type 0 where
@@ -62,7 +66,8 @@ pub data HearingTable (r : Record) : ℕ → List ℕ → Type 0 where
 unfoldable pub HearingNumbers : Type 0
 HearingNumbers =
     (r : Record) (before : State) (k : ℕ) (t : List ℕ)
-    → ((hearing.refusalOf (valuesOf r before .outcome) ≡ k) × (hearing.tellsOf (valuesOf r before .outcome) ≡ t)) ↔ HearingTable r k t
+    → ((hearing.refusalOf (valuesOf r before .outcome) ≡ k) × (hearing.tellsOf (valuesOf r before .outcome) ≡ t)) ↔
+    HearingTable r k t
 
 -- ten LSP indices to put in Hz; LSP j is field j
 pub data HertzTable (indices : List ℕ) : ℕ → List ℕ → Type 0 where
@@ -72,7 +77,8 @@ pub data HertzTable (indices : List ℕ) : ℕ → List ℕ → Type 0 where
 unfoldable pub HertzNumbers : Type 0
 HertzNumbers =
     (indices : List ℕ) (k : ℕ) (t : List ℕ)
-    → ((hertz.refusalOf (hertzOf indices .verdict) ≡ k) × (hertz.tellsOf (hertzOf indices .verdict) ≡ t)) ↔ HertzTable indices k t
+    → ((hertz.refusalOf (hertzOf indices .verdict) ≡ k) × (hertz.tellsOf (hertzOf indices .verdict) ≡ t)) ↔ HertzTable
+    indices k t
 
 -- four codes to hear; that of subframe n is field 10 + 4(n-1) + 1
 pub data MeaningTable (a b c d : ℕ) : ℕ → List ℕ → Type 0 where
@@ -106,7 +112,8 @@ pub data CodeTable (index n : ℕ) : ℕ → List ℕ → Type 0 where
 unfoldable pub CodeNumbers : Type 0
 CodeNumbers =
     (index n k : ℕ) (t : List ℕ)
-    → ((code.refusalOf (code.writtenOf index n) ≡ k) × (code.tellsOf (code.writtenOf index n) ≡ t)) ↔ CodeTable index n k t
+    → ((code.refusalOf (code.writtenOf index n) ≡ k) × (code.tellsOf (code.writtenOf index n) ≡ t)) ↔ CodeTable index n
+    k t
 
 -- a lone gain index, in either table
 pub data GainTable (index : ℕ) : ℕ → List ℕ → Type 0 where

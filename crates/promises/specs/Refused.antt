@@ -1,4 +1,5 @@
--- The refusals of frames, records, delays and codes (document 01, "Refusal numbers"): each is given exactly when its condition is met
+-- The refusals of frames, records, delays and codes (document 01, "Refusal numbers"): each is given exactly when its
+-- condition is met
 -- and none earlier is, and a refusal writes nothing. Rule.antt says the same of recordings.
 use mathlib.Core.Path.{_≡_}
 use mathlib.Core.List.{List, [], _∷_}
@@ -81,7 +82,8 @@ HearingRefuses = (r : Record) (before : State) (o : Outcome) → (valuesOf r bef
 
 unfoldable pub RefusedStateStays : Type 0
 RefusedStateStays =
-    (r : Record) (before : State) → (outcome.refusalOf (valuesOf r before .outcome) ≡ 0 → ⊥) → valuesOf r before .state ≡ before
+    (r : Record) (before : State) → (outcome.refusalOf (valuesOf r before .outcome) ≡ 0 → ⊥) → valuesOf r before .state
+    ≡ before
 
 -- where there is no record the state is as it came, too
 unfoldable pub NothingStays : Type 0
@@ -104,7 +106,8 @@ HertzGives indices Lsp.Within = AllWithin indices
 unfoldable pub HertzRefuses : Type 0
 HertzRefuses = (indices : List ℕ) (v : lsp-verdict.Verdict) → (hertzOf indices .verdict ≡ v) ↔ HertzGives indices v
 
--- four codes to hear: 2 for the first that is too large for its field, of eight bits in subframes 1 and 3 and of six in 2 and 4
+-- four codes to hear: 2 for the first that is too large for its field, of eight bits in subframes 1 and 3 and of six in
+-- 2 and 4
 pub data FirstTooLarge (a b c d : ℕ) : ℕ → Type 0 where
   first-large : 255 < a → FirstTooLarge a b c d 1
   second-large : a ≤ 255 → 63 < b → FirstTooLarge a b c d 2
@@ -169,7 +172,8 @@ unfoldable pub CodeRefuses : Type 0
 CodeRefuses = (index n : ℕ) (a : code-written.Written) → (code.writtenOf index n ≡ a) ↔ CodeGives index n a
 
 unfoldable pub RefusedCodeStays : Type 0
-RefusedCodeStays = (index : ℕ) (l : List ℤ) → (code.refusalOf (code.writtenOf index (length l)) ≡ 0 → ⊥) → code.codeLeft index l ≡ l
+RefusedCodeStays = (index : ℕ) (l : List ℤ) → (code.refusalOf (code.writtenOf index (length l)) ≡ 0 → ⊥)
+    → code.codeLeft index l ≡ l
 
 -- at the C boundary: a result below 0 leaves the lent buffer as it was
 unfoldable pub RefusedReadStays : Type 0

@@ -13,7 +13,8 @@ use Rattle.recording.specs.Pass.{hearingOf, noHearing, stateThrough, frameHeard
 abbrev pub StateRunsOn : Type 0
 StateRunsOn =
     (before : State) (s : List ℕ) (k : ℕ) → k < length (framesOf s)
-    → frameHeard before (framesOf s) (suc k) ≡ hearingOf (stateThrough before (take k (framesOf s))) (getD (framesOf s) k [])
+    → frameHeard before (framesOf s) (suc k) ≡ hearingOf (stateThrough before (take k (framesOf s)))
+    (getD (framesOf s) k [])
 
 -- before the first there is nothing, and the state is as it came; past the last there is nothing, and it is the one
 -- after all frames
@@ -21,11 +22,13 @@ abbrev pub NothingBeyond : Type 0
 NothingBeyond =
     (before : State) (s : List ℕ)
     → (frameHeard before (framesOf s) 0 ≡ noHearing before)
-    × ((k : ℕ) → length (framesOf s) ≤ k → frameHeard before (framesOf s) (suc k) ≡ noHearing (stateThrough before (framesOf s)))
+    × ((k : ℕ) → length (framesOf s) ≤ k → frameHeard before (framesOf s) (suc k)
+    ≡ noHearing (stateThrough before (framesOf s)))
 
 -- the step after k steps of a pass hears frame k + 1
 abbrev pub PassHears : Type 0
-PassHears = (before : State) (s : List ℕ) (k : ℕ) → nextOf s (passAt before s k) .hearing ≡ frameHeard before (framesOf s) (suc k)
+PassHears = (before : State) (s : List ℕ) (k : ℕ) → nextOf s (passAt before s k) .hearing
+    ≡ frameHeard before (framesOf s) (suc k)
 
 -- after k steps the first k frames are counted; after the last step, and however many follow, all
 abbrev pub PassCounts : Type 0

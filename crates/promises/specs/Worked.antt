@@ -78,7 +78,12 @@ workedNumbers =
       printed = plain (6 ∷ 224 ∷ 748 ∷ []);
     } ∷
     record { number = 5; given = read (only (21 ∷ [])); printed = pos 1 ∷ zeros 28 } ∷
-    record { number = 6; given = plain (getD (averagesOf (340 ∷ []) (250 ∷ [])) 0 0 ∷ []); printed = plain (2630 ∷ []) } ∷
+    record {
+      number = 6;
+      given = plain (getD (averagesOf (340 ∷ []) (250 ∷ [])) 0 0 ∷ []);
+      printed =
+          plain (2630 ∷ []);
+    } ∷
     record { number = 7; given = plain (byteMeans 0x42 ∷ byteMeans 0xaf ∷ []); printed = plain (240 ∷ 1764 ∷ []) } ∷
     record { number = 8; given = plain (following 351 0 ∷ following 351 63 ∷ []); printed = plain (240 ∷ 460 ∷ []) } ∷
     record { number = 9; given = plain (following 354 0 ∷ following 354 63 ∷ []); printed = plain (244 ∷ 464 ∷ []) } ∷

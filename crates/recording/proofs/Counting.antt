@@ -72,9 +72,17 @@ module _ (frames : List (List ℕ)) where
   pub repaired-few : (k : ℕ) → countsTo frames k .repaired ≤ k
   unfolding countsTo
   repaired-few k =
-      omega (arith, total-most (λ n. repairBy (readingOf (frameAt frames n))) 1 k (λ n a b. repair-small (readingOf (frameAt frames n))))
+      omega (
+        arith,
+        total-most (λ n. repairBy (readingOf (frameAt frames n))) 1 k
+            (λ n a b. repair-small (readingOf (frameAt frames n))),
+      )
 
   pub breaks-few : (k : ℕ) → countsTo frames k .breaks ≤ k
   unfolding countsTo
   breaks-few k =
-      omega (arith, total-most (λ n. breakBy n (readingOf (frameAt frames n))) 1 k (λ n a b. break-small n (readingOf (frameAt frames n))))
+      omega (
+        arith,
+        total-most (λ n. breakBy n (readingOf (frameAt frames n))) 1 k
+            (λ n a b. break-small n (readingOf (frameAt frames n))),
+      )

@@ -42,7 +42,8 @@ module _ (before : State) (frames : List (List ℕ)) where
 
   -- the state after the first k + 1 frames
   pub through-next : (k : ℕ) → k < length frames
-      → stateThrough before (take (suc k) frames) ≡ hearingOf (stateThrough before (take k frames)) (getD frames k []) .values .state
+      → stateThrough before (take (suc k) frames) ≡ hearingOf (stateThrough before (take k frames)) (getD frames k [])
+      .values .state
   through-next k h =
       ap (stateThrough before) (take-suc frames k [] h) ∙ through-more before (take k frames) (getD frames k [])
 

@@ -62,7 +62,8 @@ module _ (s : List ℕ) (before : State) {w : Walked} (is : w ≡ walkedOf s) {p
 
   -- and so after its own state
   pub start-own : w .ending ≡ Ending.Sound → p ≡ begunAt (w .walk .voices) before → p ≡ startOf (p .state) s
-  start-own ends begun = start-sound ends begun ∙ ap (λ (x : State). startOf x s) (sym (ap (λ (x : Pass). x .state) begun))
+  start-own ends begun = start-sound ends begun ∙ ap (λ (x : State). startOf x s)
+      (sym (ap (λ (x : Pass). x .state) begun))
 
 -- a pass that begins from the walk of a sound recording
 pub start-walk : (s : List ℕ) {walk : Walk} {before : State} {p : Pass} → walk ≡ walkedOf s .walk
@@ -85,13 +86,21 @@ module _ (s : List ℕ) (p : Pass) where
       → Nothing ≡ aheadOf s p
   unfolding aheadOf
   ahead-broken m r h =
-      rw (le-leb (p .frames) longest m, le-leb (p .counts .repaired) (p .frames) r, lt-leb (p .counts .breaks) (p .frames) h)
+      rw (
+        le-leb (p .frames) longest m,
+        le-leb (p .counts .repaired) (p .frames) r,
+        lt-leb (p .counts .breaks) (p .frames) h,
+      )
 
   pub ahead-found : p .frames ≤ longest → p .counts .repaired ≤ p .frames → p .counts .breaks ≤ p .frames
       → aheadOf s p ≡ foundAt s (p .at) (p .left)
   unfolding aheadOf
   ahead-found m r b =
-      rw (le-leb (p .frames) longest m, le-leb (p .counts .repaired) (p .frames) r, le-leb (p .counts .breaks) (p .frames) b)
+      rw (
+        le-leb (p .frames) longest m,
+        le-leb (p .counts .repaired) (p .frames) r,
+        le-leb (p .counts .breaks) (p .frames) b,
+      )
 
   -- where a frame is ahead, the pass has room for one more, and the frame stands within the bytes
   pub record Ahead (first rest : ℕ) : Type 0 where
@@ -102,7 +111,8 @@ module _ (s : List ℕ) (p : Pass) where
 
   pub ahead-is : (first rest : ℕ) → aheadOf s p ≡ At first rest → Ahead first rest
   unfolding aheadOf
-  ahead-is first rest = go (leb (p .frames) longest) (leb (p .counts .repaired) (p .frames)) (leb (p .counts .breaks) (p .frames)) refl refl refl
+  ahead-is first rest = go (leb (p .frames) longest) (leb (p .counts .repaired) (p .frames))
+      (leb (p .counts .breaks) (p .frames)) refl refl refl
     where
       never : Nothing ≡ At first rest → Ahead first rest
       never e = absurd (let z : _≡_ {A = ℕ} 0 1 = cc in omega arith)
@@ -124,7 +134,8 @@ module _ (s : List ℕ) (p : Pass) where
 -- of `Pass::past`
 pub past-frame : (p : Pass) (h : Hearing) (end left : ℕ) {c : Counts}
     → c ≡ counting (p .counts) (p .frames + 1) (h .reading)
-    → record { at = end; left = left; frames = p .frames + 1; counts = c; state = h .values .state } ≡ pastFrame p h end left
+    → record { at = end; left = left; frames = p .frames + 1; counts = c; state = h .values .state }
+    ≡ pastFrame p h end left
 past-frame p h end left e =
     λ i. record { at = end; left = left; frames = p .frames + 1; counts = e i; state = h .values .state }
 
@@ -140,7 +151,8 @@ module _ (s : List ℕ) (p : Pass) where
       → q ≡ pastFrame p h (first + 18) rest → record { hearing = h; pass = q } ≡ stepBy s p (At first rest)
   went-past first rest {h} {q} e is =
       let m : first + 18 - first ≡ 18 = omega arith in
-      let l : h ≡ hearingOf (p .state) (part s first 18) = e ∙ ap (λ (k : ℕ). hearingOf (p .state) (part s first k)) m in
+      let l : h ≡ hearingOf (p .state) (part s first 18) = e ∙ ap (λ (k : ℕ). hearingOf (p .state) (part s first k)) m
+      in
       (λ i. record { hearing = h; pass = is i })
       ∙ ap (λ (x : Hearing). record { hearing = x; pass = pastFrame p x (first + 18) rest }) l
 
@@ -225,14 +237,21 @@ passing-start before s = go (walkedOf s .ending) refl
   where
     begun : (at : ℕ) → framesFrom s at 0 ≡ framesOf s → Passing before s (begunAt at before)
     begun at e =
-        record { rest = e; most = omega arith; counts = counts-none (framesOf s); state = through-none before (framesOf s) }
+        record {
+          rest = e;
+          most = omega arith;
+          counts = counts-none (framesOf s);
+          state =
+              through-none before (framesOf s);
+        }
 
     go : (e : Ending) → walkedOf s .ending ≡ e
         → Passing before s (begunAt (ifSound e (walkedOf s .walk .voices) (length s)) before)
     go Ending.Sound e = begun (walkedOf s .walk .voices) (sym (frames-sound s e))
     go (Ending.Refused cause) e =
         let z = broken-no-voice s (length s) (EndMissing (length s)) (sym (nothing-left s (length s) (omega arith))) in
-        begun (length s) (frames-none s (length s) 0 (sym (no-voice s (length s) 0 0 refl z refl)) ∙ sym (frames-refused s cause e))
+        begun (length s) (frames-none s (length s) 0 (sym (no-voice s (length s) 0 0 refl z refl))
+        ∙ sym (frames-refused s cause e))
 
 -- a step of a pass takes it past the next frame, which is heard, or it is at the end of the frames and stays
 pub data Stepping (before : State) (s : List ℕ) (p : Pass) (t : Step) : Type 0 where
@@ -253,7 +272,8 @@ module _ (before : State) (s : List ℕ) (p : Pass) (q : Passing before s p) whe
 
   stepped : (f : Found) → foundAt s (p .at) (p .left) ≡ f → Stepping before s p (stepBy s p f)
   unfolding hearingOf
-  stepped (At first rest) e = past (l .0) heard (record { rest = rest′; most = most′; counts = counts′; state = state′ }) (add-one (p .frames))
+  stepped (At first rest) e = past (l .0) heard (record
+      { rest = rest′; most = most′; counts = counts′; state = state′ }) (add-one (p .frames))
     where
       l : (p .frames < length (framesOf s)) × (part s first 18 ≡ getD (framesOf s) (p .frames) [])
           × (framesFrom s (first + 18) rest ≡ drop (suc (p .frames)) (framesOf s))
@@ -271,14 +291,16 @@ module _ (before : State) (s : List ℕ) (p : Pass) (q : Passing before s p) whe
       most′ : p .frames + 1 ≤ length (framesOf s)
       most′ = omega (arith, l .0)
 
-      counts′ : counting (p .counts) (p .frames + 1) (hearingOf (p .state) (part s first 18) .reading) ≡ countsTo (framesOf s) (p .frames + 1)
+      counts′ : counting (p .counts) (p .frames + 1) (hearingOf (p .state) (part s first 18) .reading)
+          ≡ countsTo (framesOf s) (p .frames + 1)
       counts′ =
           let n : p .frames + 1 - 1 ≡ p .frames = omega arith in
           ap₂ (λ (c : Counts) (f : List ℕ). counting c (p .frames + 1) (readingOf f)) (q .counts)
           (l .1 ∙ ap (λ (k : ℕ). getD (framesOf s) k []) (sym n))
           ∙ counts-more (framesOf s) (p .frames)
 
-      state′ : hearingOf (p .state) (part s first 18) .values .state ≡ stateThrough before (take (p .frames + 1) (framesOf s))
+      state′ : hearingOf (p .state) (part s first 18) .values .state
+          ≡ stateThrough before (take (p .frames + 1) (framesOf s))
       state′ =
           ap (λ (h : Hearing). h .values .state) heard ∙ sym (through-next before (framesOf s) (p .frames) (l .0))
           ∙ ap (λ (k : ℕ). stateThrough before (take k (framesOf s))) (sym (add-one (p .frames)))

@@ -113,7 +113,12 @@ after-next before s k p a = go (nextOf s p) (passing-next before s p (a .passing
 pass-after : (before : State) (s : List ℕ) (k : ℕ) → After before s k (passAt before s k)
 unfolding passAt
 pass-after before s zero =
-    record { passing = passing-start before s; some = λ m. none-passed before s; all = λ m. omega (arith, none-passed before s) }
+    record {
+      passing = passing-start before s;
+      some = λ m. none-passed before s;
+      all =
+          λ m. omega (arith, none-passed before s);
+    }
 pass-after before s (suc k) = after-next before s k (passAt before s k) (pass-after before s k)
 
 -- one step more
@@ -133,7 +138,8 @@ pass-stays before s k e = go
     go : (n : ℕ) → passAt before s k ≡ passAt before s (k + n)
     go zero = ap (passAt before s) (sym (add-zero k))
     go (suc n) =
-        sym same ∙ ap (λ (p : Pass). nextOf s p .pass) (go n) ∙ pass-on before s (k + n) ∙ ap (passAt before s) (sym (add-suc k n))
+        sym same ∙ ap (λ (p : Pass). nextOf s p .pass) (go n) ∙ pass-on before s (k + n)
+        ∙ ap (passAt before s) (sym (add-suc k n))
 
 module _ (before : State) (s : List ℕ) (k : ℕ) where
   -- the step after k steps hears frame k + 1
@@ -221,7 +227,8 @@ module _ (s : List ℕ) (k : ℕ) {fresh before : State} (same : fresh ≡ befor
   sought {p} z is here next =
       let n : suc (k - 1) ≡ k = omega arith in
       ap (λ (x : Step). x .hearing) (next ∙ ap (nextOf s) here) ∙ pass-hears (p .state) s (k - 1)
-      ∙ ap (λ (x : State). frameHeard x (framesOf s) (suc (k - 1))) (ap (λ (x : Pass). x .state) is ∙ started-state ∙ same)
+      ∙ ap (λ (x : State). frameHeard x (framesOf s) (suc (k - 1)))
+      (ap (λ (x : Pass). x .state) is ∙ started-state ∙ same)
       ∙ ap (frameHeard before (framesOf s)) n
     where
       started-state : startOf fresh s .state ≡ fresh

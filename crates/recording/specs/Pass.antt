@@ -49,7 +49,14 @@ frameHeard before frames (suc k) = firstHeard (stateThrough before (take k frame
 
 -- before the frame at a place, with no frame passed
 abbrev pub begunAt : ℕ → State → Pass
-begunAt at before = record { at = at; left = 0; frames = 0; counts = record { repaired = 0; breaks = 0 }; state = before }
+begunAt at before = record {
+  at = at;
+  left = 0;
+  frames = 0;
+  counts = record { repaired = 0; breaks = 0 };
+  state =
+      before;
+}
 
 -- before the first frame of a recording; at the end of one that is refused
 unfoldable pub startOf : State → List ℕ → Pass
@@ -57,7 +64,8 @@ startOf before s = begunAt (ifSound (walkedOf s .ending) (walkedOf s .walk .voic
 
 -- a pass that was begun so has passed no more frames than a recording has bytes, and counted none of them twice
 abbrev pub begunHere : Pass → Bool
-begunHere p = both (leb (p .frames) longest) (both (leb (p .counts .repaired) (p .frames)) (leb (p .counts .breaks) (p .frames)))
+begunHere p = both (leb (p .frames) longest) (both (leb (p .counts .repaired) (p .frames))
+    (leb (p .counts .breaks) (p .frames)))
 
 -- where its next frame stands; any other pass is at its end
 unfoldable pub aheadOf : List ℕ → Pass → Found

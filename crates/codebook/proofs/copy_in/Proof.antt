@@ -34,5 +34,6 @@ returns c = copied-all (pos 0) (c .before .before .args .part .now) (c .before .
 pub copy-in-spec : {M : Type 1} → statement M
 copy-in-spec =
     tie.close
-    (tie.spec Inv-loop μ-loop loop-holds (λ c. omega arith) slice-set-from-out (λ c. omega arith) (λ c. omega arith) loop-again
+    (tie.spec Inv-loop μ-loop loop-holds (λ c. omega arith) slice-set-from-out (λ c. omega arith) (λ c. omega arith)
+    loop-again
     (λ c. omega arith) returns)

@@ -41,4 +41,5 @@ pub rank-with-spec : {M : Type 1} → statement M
 rank-with-spec =
     tie.close
     (tie.spec returns (λ c. omega arith) returns-2 returns-3 (λ c. omega arith) (λ c. omega arith) returns-4 returns-5
-    (λ c. omega arith) (λ c. omega arith) returns-6 returns-7 (λ c. omega arith) (λ c. omega arith) returns-8 returns-9 returns-10)
+    (λ c. omega arith) (λ c. omega arith) returns-6 returns-7 (λ c. omega arith) (λ c. omega arith) returns-8 returns-9
+    returns-10)

@@ -15,5 +15,6 @@ abbrev μ-loop : tie.MeasureT-loop
 pub run-spec : {M : Type 1} → statement M
 run-spec =
     tie.close
-    (tie.spec Inv-loop μ-loop (λ c. tt) (λ c κs. tt) (λ c κs. omega arith) (λ c. tt) (λ c κs. omega arith) (λ c. omega arith)
+    (tie.spec Inv-loop μ-loop (λ c. tt) (λ c κs. tt) (λ c κs. omega arith) (λ c. tt) (λ c κs. omega arith)
+    (λ c. omega arith)
     (λ c. omega arith) (λ c. tt) (λ c κs. tt) (λ c. tt))

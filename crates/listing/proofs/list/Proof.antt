@@ -19,7 +19,8 @@ returns-2 c =
     let e = p .before .before .before in
     let w = e .before .before in
     let s = w .before .before .before in
-    listed-refused _ _ (λ i. s .shared-slice-known .given i .fits) (w .before .if1 .left) (w .walk-through .ensures) (e .ending .given .1)
+    listed-refused _ _ (λ i. s .shared-slice-known .given i .fits) (w .before .if1 .left) (w .walk-through .ensures)
+    (e .ending .given .1)
     (p .put-refused .ensures)
 
 same-length : tie.Need-same-length
@@ -31,7 +32,8 @@ returns-3 c =
     let e = p .before .before in
     let w = e .before .before in
     let s = w .before .before .before in
-    listed-sound _ _ (λ i. s .shared-slice-known .given i .fits) (w .before .if1 .left) (w .walk-through .ensures) (e .enum-told .given .1)
+    listed-sound _ _ (λ i. s .shared-slice-known .given i .fits) (w .before .if1 .left) (w .walk-through .ensures)
+    (e .enum-told .given .1)
     (p .put-sound .ensures)
 
 same-length-2 : tie.Need-same-length-2

@@ -3,7 +3,8 @@ use Rattle.listing.proofs.put_field.Statement.{statement}
 use Rattle.listing.proofs.put_field.Tie as tie
 
 returns : tie.Need-returns
-returns c = field-put _ _ _ (c .before .before .before .before .before .before .put-byte .ensures) (c .before .before .put-number .ensures)
+returns c = field-put _ _ _ (c .before .before .before .before .before .before .put-byte .ensures)
+    (c .before .before .put-number .ensures)
 
 same-length : tie.Need-same-length
 same-length c = put-length _ _ _ (returns c)

@@ -38,7 +38,8 @@ loop-again c =
     let p = c .before .before in
     let l = p .before .before .before in
     let n = l .before .before .before .before in
-    listing-on (n .before .loop .inv) (n .next .ensures) (l .before .if1 .left) (l .line-of .ensures) (p .put-line .ensures)
+    listing-on (n .before .loop .inv) (n .next .ensures) (l .before .if1 .left) (l .line-of .ensures)
+    (p .put-line .ensures)
 
 pub put-frames-spec : {M : Type 1} → statement M
 put-frames-spec =

@@ -9,7 +9,8 @@ returns c =
     let u = e .before .before .before .before in
     let q = u .before .before .before .before in
     let p = q .before .before .before .before in
-    line-put _ _ _ (p .before .before .before .args .line) (p .put-number .ensures) (q .put-field .ensures) (u .put-said .ensures)
+    line-put _ _ _ (p .before .before .before .args .line) (p .put-number .ensures) (q .put-field .ensures)
+    (u .put-said .ensures)
     (e .put-byte .ensures)
 
 same-length : tie.Need-same-length

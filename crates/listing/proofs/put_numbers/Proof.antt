@@ -11,7 +11,8 @@ returns : tie.Need-returns
 returns c =
     let d = c .before .before in
     let y = d .before .before .before .before .before in
-    numbers-put _ _ _ _ _ (y .before .before .before .before .put-field .ensures) (y .put-field2 .ensures) (d .put-fields .ensures)
+    numbers-put _ _ _ _ _ (y .before .before .before .before .put-field .ensures) (y .put-field2 .ensures)
+    (d .put-fields .ensures)
 
 same-length : tie.Need-same-length
 same-length c = put-length _ _ _ (returns c)

@@ -7,7 +7,8 @@ returns : tie.Need-returns
 returns c =
     let b = c .before .before in
     let t = b .before .before .before .before in
-    pair-put _ _ _ _ _ _ (t .before .before .before .before .put-told .ensures) (t .put-told2 .ensures) (b .put-byte .ensures)
+    pair-put _ _ _ _ _ _ (t .before .before .before .before .put-told .ensures) (t .put-told2 .ensures)
+    (b .put-byte .ensures)
 
 same-length : tie.Need-same-length
 same-length c = put-length _ _ _ (returns c)

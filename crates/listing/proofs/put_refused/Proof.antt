@@ -9,7 +9,8 @@ returns : tie.Need-returns
 returns c =
     let p = c .before .before in
     let l = p .before .before .before .before in
-    refused-put _ _ (l .before .before .refusal-number .ensures) (l .before .tells .ensures) (l .place-shown .ensures) (p .put-pair .ensures)
+    refused-put _ _ (l .before .before .refusal-number .ensures) (l .before .tells .ensures) (l .place-shown .ensures)
+    (p .put-pair .ensures)
 
 same-length : tie.Need-same-length
 same-length c = put-length _ _ _ (returns c)

@@ -16,7 +16,8 @@ returns c =
     let p = c .before .before in
     let b = p .before .before in
     let h = b .before .before .before .before in
-    sound-put _ (h .before .before .before .before .args .walk) _ (b .before .fresh .ensures) (b .begin .ensures) (h .put-head .ensures)
+    sound-put _ (h .before .before .before .before .args .walk) _ (b .before .fresh .ensures) (b .begin .ensures)
+    (h .put-head .ensures)
     (p .put-frames .ensures)
 
 same-length : tie.Need-same-length

@@ -4,7 +4,8 @@ use Rattle.listing.proofs.put_told.Statement.{statement}
 use Rattle.listing.proofs.put_told.Tie as tie
 
 returns : tie.Need-returns
-returns c = put-then _ _ _ _ (c .before .before .before .before .before .before .put-word .ensures) (c .before .before .put-number .ensures)
+returns c = put-then _ _ _ _ (c .before .before .before .before .before .before .put-word .ensures)
+    (c .before .before .put-number .ensures)
 
 same-length : tie.Need-same-length
 same-length c = put-length _ _ _ (returns c)

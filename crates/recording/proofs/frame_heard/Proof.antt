@@ -13,7 +13,8 @@ returns-2 : tie.Need-returns-2
 returns-2 c =
     let p = c .before .before in
     let e = p .before .before in
-    sought _ _ (e .before .fresh .ensures) (e .if1 .left) (p .before .start .ensures) (p .pass-after .ensures) (c .before .next .ensures)
+    sought _ _ (e .before .fresh .ensures) (e .if1 .left) (p .before .start .ensures) (p .pass-after .ensures)
+    (c .before .next .ensures)
 
 pub frame-heard-spec : {M : Type 1} → statement M
 frame-heard-spec =

@@ -11,7 +11,8 @@ returns c = judge-refused _ (c .before .before .before .walk-through .ensures) (
 
 returns-2 : tie.Need-returns-2
 returns-2 c =
-    judge-sound _ (c .before .before .before .walk-through .ensures) (c .before .enum-told .given .1) (c .summarize .ensures)
+    judge-sound _ (c .before .before .before .walk-through .ensures) (c .before .enum-told .given .1)
+    (c .summarize .ensures)
 
 pub judge-spec : {M : Type 1} → statement M
 judge-spec = tie.close (tie.spec (λ c κs. tt) (search needs) (search needs) summarize-requires returns returns-2)

@@ -15,7 +15,8 @@ add-breaks c =
 returns : tie.Need-returns
 returns c =
     let s = c .before .before .before .before in
-    counted (s .args .self) (s .args .n) (s .args .reading) (c .before .before .before .repair-by .ensures) (c .before .break-by .ensures)
+    counted (s .args .self) (s .args .n) (s .args .reading) (c .before .before .before .repair-by .ensures)
+    (c .before .break-by .ensures)
 
 pub with-spec : {M : Type 1} → statement M
 with-spec = tie.close (tie.spec (search needs) add-repaired (search needs) add-breaks returns)

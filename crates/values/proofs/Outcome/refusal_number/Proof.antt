@@ -17,4 +17,5 @@ returns-4 : tie.Need-returns-4
 returns-4 c = ap refusalOf (sym (c .enum-told4 .given .1))
 
 pub refusal-number-spec : {M : Type 1} → statement M
-refusal-number-spec = tie.close (tie.spec (search needs) (search needs) (search needs) (search needs) returns returns-2 returns-3 returns-4)
+refusal-number-spec = tie.close (tie.spec (search needs) (search needs) (search needs) (search needs) returns returns-2
+    returns-3 returns-4)
