@@ -26,7 +26,7 @@ MANUAL = ["host/*.1", "host/*.3"]
 NAMING = ["README.md", "docs/HANDBOOK.md", "docs/CHANGING.md", "samples/README.md"]
 SHOWING = ["README.md", "docs/HANDBOOK.md", "samples/README.md", "host/oatlantern-list.1", "host/oatlantern-decode.1"]
 NOT_RUN = re.compile(r"rt |\.ci/run|cargo |make |cc |git |samples/make\.py |\.ci/prose\.py|python3 ")
-RUN = re.compile(r"(\./run target/\S+|oatlantern-\w+|head|sed -n|cut|od|cmp|diff|printf|echo)\b")
+RUN = re.compile(r"(\./run target/\S+|oatlantern-\w+|head|sed -n|cut|tail|od|cmp|diff|printf|echo)\b")
 LISTING = re.compile(r"unit \d+ recording \d+ frames \d+|\d+ \d+ (refused \d+|\d+ [01]( \d+){4})|repaired \d+ breaks \d+|refused \d+ at \d+"
                      r"|frame \d+( \d+){28} .*")
 independent = Path(sys.argv[2]).resolve() if sys.argv[1:2] == ["--with"] else None
