@@ -1,6 +1,5 @@
 -- The format described once, by how its bytes are made (document 01, "Recordings"); what is walked through to a sound
--- end is what is
--- made so.
+-- end is what is made so.
 use mathlib.Core.Path.{_≡_}
 use mathlib.Core.Bool.{true}
 use mathlib.Core.List.{List, [], _∷_, _++_}

@@ -52,8 +52,8 @@ pastVoice w size =
     }
 
 -- what a block does to the walk that comes to it. A head is in its turn where there was none, a voice block after the
--- head, the end
--- after a voice block; the end tells the number of frames, and nothing comes after its payload of four bytes.
+-- head, the end after a voice block; the end tells the number of frames, and nothing comes after its payload of four
+-- bytes.
 abbrev pub atHead : Walk → Heading → Moved
 atHead w heading = unless (not (w .headed)) (refuse (OutOfTurn (w .at))) (On (pastHead w heading))
 

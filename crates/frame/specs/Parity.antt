@@ -11,8 +11,8 @@ use Rattle.frame.specs.Places.Name.{PD, PG, HP, SP}
 -- the fifteen guarded bits in the order of their correction numbers, 1 to 15
 abbrev pub guarded : List Name
 guarded =
-    HP 0 ∷ HP 1 ∷ PD 1 5 ∷ HP 2 ∷ PD 1 6 ∷ PD 1 7 ∷ PG 1 4 ∷ HP 3 ∷ PG 2 4 ∷ PD 3 5 ∷ PD 3 6 ∷ PD 3 7 ∷ PG 3 4 ∷ PG
-    4 4 ∷ SP ∷ []
+    HP 0 ∷ HP 1 ∷ PD 1 5 ∷ HP 2 ∷ PD 1 6 ∷ PD 1 7 ∷ PG 1 4 ∷
+    HP 3 ∷ PG 2 4 ∷ PD 3 5 ∷ PD 3 6 ∷ PD 3 7 ∷ PG 3 4 ∷ PG 4 4 ∷ SP ∷ []
 
 -- the bit that has correction number n
 abbrev pub guardedName : ℕ → Name

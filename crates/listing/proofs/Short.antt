@@ -1,7 +1,5 @@
 -- Every listing is short enough. The bounds are loose where the room is large: 3,640 lines of at most 35 bytes, and a
--- thousand for
--- each of the other lines.
--- Assumes nothing.
+-- thousand for each of the other lines. Assumes nothing.
 use mathlib.Core.Path.{_≡_, refl}
 use mathlib.Core.List.{List, [], _∷_, _++_}
 use Prim.Native.Nat.{ℕ, zero, suc, _+_, _*_, _^_, _<_, _≤_}

@@ -1,7 +1,5 @@
 -- What a walk tells is small: a head's numbers have ten digits at most, there are no more frames than bytes, and the
--- place that a
--- refusal shows is in the recording, or at its end, or the longest length of one.
--- Assumes nothing.
+-- place that a refusal shows is in the recording, or at its end, or the longest length of one. Assumes nothing.
 use mathlib.Core.Path.{_≡_, refl, ap, subst}
 use mathlib.Core.Bool.{false, not}
 use mathlib.Core.List.{List}

@@ -36,9 +36,8 @@ unfoldable pub fields : List ℕ → List ℕ
 fields [] = []
 fields (n ∷ ns) = ascii " " ++ decimal n ++ fields ns
 
--- what a line prints of a frame that was heard: correction number, its refusal as a record turned into values (0
--- where there is
--- none), order mark, SY, four delays in twelfths
+-- what a line prints of a frame that was heard: correction number, its refusal as a record turned into values (0 where
+-- there is none), order mark, SY, four delays in twelfths
 abbrev pub lineOf : Hearing → Line
 lineOf h =
     record {

@@ -26,12 +26,9 @@ use Rattle.promises.specs.Running.{StateRunsOn, NothingBeyond, PassHears
 use Rattle.promises.specs.Worked.{AllTwelve}
 
 -- "Every frame, record or recording, however damaged, gets an answer and the call ends. A frame that isn't eighteen
--- bytes, an index too
--- large for its field, a record to write whose line spectral parameters fall, a delay that can't be sent, a set
--- expansion bit in a record
--- to write or to hear, or a broken recording is refused by its number, no caller has to look first, and a refusal
--- writes nothing into any
--- buffer lent to us."
+-- bytes, an index too large for its field, a record to write whose line spectral parameters fall, a delay that can't be
+-- sent, a set expansion bit in a record to write or to hear, or a broken recording is refused by its number, no caller
+-- has to look first, and a refusal writes nothing into any buffer lent to us."
 --
 -- That each call ends, and what it answers and leaves on every input, is the contract of each function, none of which
 -- has a `requires`.
@@ -75,10 +72,8 @@ pub record DemandOne : Type 0 where
   pub refused-listing-stays : RefusedListingStays
 
 -- "Reading and writing are those of Federal Standard 1016: the 144 places, the parity, the gains, delays, averaged
--- parameters and 512
--- ternary codes. A record the writer accepts reads back equal. A frame that is read writes back to the same bits
--- exactly when its parity
--- was clean, its expansion bit 0 and its parameters in order."
+-- parameters and 512 ternary codes. A record the writer accepts reads back equal. A frame that is read writes back to
+-- the same bits exactly when its parity was clean, its expansion bit 0 and its parameters in order."
 pub record DemandTwo : Type 0 where
   -- frames
   pub reads-back : ReadsBack
@@ -139,11 +134,9 @@ pub record DemandTwo : Type 0 where
   pub listing-stands : ListingStands
 
 -- "Take a frame our writer made and flip any set of its bits. The indices then read are the written ones, with exactly
--- those bits
--- reversed that come out as 1 when the flips alone are read as a frame; the correction number reported is the one for
--- the flips alone. If
--- no more than one of the fifteen guarded places was flipped, none of the eleven guarded data bits differs. Two are
--- always reported."
+-- those bits reversed that come out as 1 when the flips alone are read as a frame; the correction number reported is
+-- the one for the flips alone. If no more than one of the fifteen guarded places was flipped, none of the eleven
+-- guarded data bits differs. Two are always reported."
 pub record DemandThree : Type 0 where
   -- the flips alone
   pub damage-alone : DamageAlone

@@ -22,8 +22,7 @@ abbrev pub payloadPlace : List (List ℕ) → ℕ → ℕ
 payloadPlace ps k = afterHead 0 + length (voiceBlocks (take k ps)) + 6
 
 -- the k-th voice block of a recording is that part of its bytes, of whole frames; it ends before the next begins, and
--- ten bytes for the
--- end block come after it
+-- ten bytes for the end block come after it
 pub record Stands (s : List ℕ) (k : ℕ) : Type 0 where
   pub from : spanOf s k .from ≡ payloadPlace (payloadsOf s) k
   pub to : spanOf s k .to ≡ payloadPlace (payloadsOf s) k + length (voiceBlockOf s k)

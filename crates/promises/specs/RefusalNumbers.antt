@@ -1,8 +1,7 @@
 -- The table of document 01, "Refusal numbers": for each answer its refusal's number, when it is given, and what it
--- tells. A row is a
--- number, a list of what is told, and the condition; 0 is no refusal. An answer has a number and tells a list exactly
--- when such a row
--- is met, so that a renumbering moves a row and the definition of the number, and no condition.
+-- tells. A row is a number, a list of what is told, and the condition; 0 is no refusal. An answer has a number and
+-- tells a list exactly when such a row is met, so that a renumbering moves a row and the definition of the number, and
+-- no condition.
 use mathlib.Core.Path.{_≡_}
 use mathlib.Core.List.{List, [], _∷_}
 use mathlib.Core.Logic.{_↔_}

@@ -1,6 +1,5 @@
 -- The refusals of frames, records, delays and codes (document 01, "Refusal numbers"): each is given exactly when its
--- condition is met
--- and none earlier is, and a refusal writes nothing. Rule.antt says the same of recordings.
+-- condition is met and none earlier is, and a refusal writes nothing. Rule.antt says the same of recordings.
 use mathlib.Core.Path.{_≡_}
 use mathlib.Core.List.{List, [], _∷_}
 use mathlib.Core.Logic.{_↔_}

@@ -1,6 +1,5 @@
 -- When a recording is refused, and by which refusal (document 01, "Refusal numbers"): each is given exactly when its
--- condition is
--- met and none earlier is.
+-- condition is met and none earlier is.
 use mathlib.Core.Path.{_≡_}
 use mathlib.Core.Bool.{Bool, true, false, not, cond}
 use mathlib.Core.List.{List, [], _∷_}

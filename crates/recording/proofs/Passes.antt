@@ -1,7 +1,5 @@
--- The returns of the functions of a pass, and the law of a pass: after k steps from the start it stands before frame
--- k + 1, with the
--- counts and the state of the k frames before it; and its step hears that frame.
--- Assumes nothing.
+-- The returns of the functions of a pass, and the law of a pass: after k steps from the start it stands before frame k
+-- + 1, with the counts and the state of the k frames before it; and its step hears that frame. Assumes nothing.
 use mathlib.Core.Path.{_≡_, _∙_, sym, refl, ap, ap₂}
 use mathlib.Core.Bool.{Bool, true, false, cond}
 use mathlib.Core.List.{List, [], _∷_}

@@ -1,6 +1,5 @@
--- Going through the frames of a recording: what is heard of each, after the state that went through every frame
--- before it, and what
--- is counted on the way.
+-- Going through the frames of a recording: what is heard of each, after the state that went through every frame before
+-- it, and what is counted on the way.
 use mathlib.Core.Bool.{Bool, cond}
 use mathlib.Core.List.{List, [], _∷_}
 use Prim.Native.Nat.{ℕ, zero, suc, _+_}
