@@ -152,6 +152,7 @@ accepted-only r n e = record { long = long; fits = fits; order = order; expansio
 
 -- what the buffer holds after them
 module _ (r : Record) (s : List ℕ) where
+  -- what an answer leaves in the buffer
   pub left : (a : Written) → a ≡ writtenOf r (length s) → leftBy a (frameOf r) s ≡ frameLeft r s
   unfolding frameLeft
   left a e = ap (λ (x : Written). leftBy x (frameOf r) s) e

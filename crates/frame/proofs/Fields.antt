@@ -50,15 +50,19 @@ module _ (f i : ℕ) (h : f < 29) (l : i < bitsIn f) where
       (below (λ (i : ℕ). found-at f i (placeOf f i)) (bitsIn f) (below found 29 all-found f h) i l) in
       (leb→le 1 p (t .0), leb→le p 144 (t .1), eqb→eq (fieldAt p) f (t .2), eqb→eq (bitIn p) i (t .3))
 
+  -- its place is one of 1 to 144
   pub place-first : 1 ≤ placeOf f i
   place-first = told .0
 
+  -- and not past the last
   pub place-last : placeOf f i ≤ 144
   place-last = told .1
 
+  -- the field that stands at its place is f
   pub field-of-place : fieldAt (placeOf f i) ≡ f
   field-of-place = told .2
 
+  -- and the bit there is i
   pub bit-of-place : bitIn (placeOf f i) ≡ i
   bit-of-place = told .3
 
@@ -95,6 +99,7 @@ scattered f h =
 
 -- an index read is the number with the bits at the field's places
 module _ (b : ℕ → ℕ) (f : ℕ) (h : f < 29) where
+  -- the index in a field is the number with the bits at the field's places
   pub index-collected : indexIn b f ≡ fromBits (λ i. b (placeOf f i)) (bitsIn f)
   unfolding indexIn
   index-collected = collected (scattered f h) b

@@ -179,6 +179,7 @@ module _ (s t : List ℕ) (same : t ≡ entries) {k q : ℕ} {v : List ℕ}
   pub turn-field : field < 29
   turn-field = rw field-is (field-small (bitAt s) (bitAt-small s) g within)
 
+  -- a turn's sum has room in sixteen bits
   pub turn-room : getD v field 0 + shifted < 65536
   turn-room = rw shifted-is (room (bitAt s) (bitAt-small s) g within field turn-field)
 

@@ -31,6 +31,7 @@ use Rattle.frame.proofs.Number.{guardedBits}
 abbrev pub guardedField : ℕ → ℕ
 guardedField n = fieldOf (guardedName n)
 
+-- its bit in that field
 abbrev pub guardedBit : ℕ → ℕ
 guardedBit n = bitOf (guardedName n)
 
@@ -65,9 +66,11 @@ module _ (n : ℕ) (a : 1 ≤ n) (h : n ≤ 15) where
       (at (HP 0) sound guarded all-sound (n - 1) (omega arith)) in
       (ltb→lt f 29 (t .0), ltb→lt i (bitsIn f) (t .1), eqb→eq (e / 16) f (t .2), eqb→eq (e % 16) i (t .3))
 
+  -- the field of a guarded bit is one of the record's, or 0
   pub guarded-field-small : guardedField n < 29
   guarded-field-small = sound-here .0
 
+  -- its bit is one of that field's
   pub guarded-bit-small : guardedBit n < bitsIn (guardedField n)
   guarded-bit-small = sound-here .1
 
@@ -85,16 +88,20 @@ module _ (n : ℕ) (a : 1 ≤ n) (h : n ≤ 15) where
   pub guarded-place : guardedPlace n ≡ placeOf (guardedField n) (guardedBit n)
   guarded-place = place-is n a
 
+  -- its place is one of 1 to 144
   pub guarded-first : 1 ≤ guardedPlace n
   guarded-first = rw guarded-place (place-first (guardedField n) (guardedBit n) guarded-field-small guarded-bit-small)
 
+  -- and not past the last
   pub guarded-last : guardedPlace n ≤ 144
   guarded-last = rw guarded-place (place-last (guardedField n) (guardedBit n) guarded-field-small guarded-bit-small)
 
+  -- the field that stands at its place is its own
   pub field-of-guarded : fieldAt (guardedPlace n) ≡ guardedField n
   field-of-guarded =
       rw guarded-place (field-of-place (guardedField n) (guardedBit n) guarded-field-small guarded-bit-small)
 
+  -- and so is the bit there
   pub bit-of-guarded : bitIn (guardedPlace n) ≡ guardedBit n
   bit-of-guarded = rw guarded-place (bit-of-place (guardedField n) (guardedBit n) guarded-field-small guarded-bit-small)
 

@@ -55,12 +55,15 @@ module _ (p : ℕ) (a : 1 ≤ p) (h : p ≤ 144) where
             (both-right (ltb (shiftOf p) 8) (eqb (placeAt (byteOf p) (shiftOf p)) p) u),
       )
 
+  -- a place stands in one of eighteen bytes
   pub byte-small : byteOf p < 18
   byte-small = told .0
 
+  -- at one of eight bits
   pub shift-small : shiftOf p < 8
   shift-small = told .1
 
+  -- and the place of that byte and bit is the place again
   pub place-back : placeAt (byteOf p) (shiftOf p) ≡ p
   place-back = told .2
 
@@ -90,14 +93,18 @@ module _ (k i : ℕ) (h : k < 18) (l : i < 8) where
       let t = each-of-four (leb 1 p) (leb p 144) (eqb (byteOf p) k) (eqb (shiftOf p) i) found in
       (leb→le 1 p (t .0), leb→le p 144 (t .1), eqb→eq (byteOf p) k (t .2), eqb→eq (shiftOf p) i (t .3))
 
+  -- the place of a byte and a bit is one of 1 to 144
   pub there-first : 1 ≤ placeAt k i
   there-first = stands .0
 
+  -- and not past the last
   pub there-last : placeAt k i ≤ 144
   there-last = stands .1
 
+  -- it stands in that byte
   pub byte-there : byteOf (placeAt k i) ≡ k
   byte-there = stands .2
 
+  -- at that bit
   pub shift-there : shiftOf (placeAt k i) ≡ i
   shift-there = stands .3

@@ -83,6 +83,7 @@ stands-at k i h l =
 
 -- so the bits shifted in after 8 k places are byte k
 module _ (b : ℕ → ℕ) (bits : (p : ℕ) → b p < 2) (k : ℕ) (h : k < 18) where
+  -- after eight turns the number is the byte
   pub byte-shifted : {q x : ℕ} → Shifted b bits (8 * k) q x → 8 ≤ q → x ≡ fromBits (λ i. b (placeAt k i)) 8
   byte-shifted s l =
       shifted-all b bits (8 * k) s l

@@ -25,8 +25,10 @@ module _ {n : ℕ} (f : Fits w32 n) where
   widened : toZ w64 n ≡ pos n
   widened = toZ-pos w64 (omega (arith, f .fits))
 
+  -- the difference fits 64 bits
   pub difference-fits : SFits w64 (toZ w64 n -ℤ pos 2147483648)
   difference-fits = rw widened (sfits-widen tt (lowered-fits n (omega (arith, f .fits))))
 
+  -- and 32 bits
   pub difference-goes : SFits w32 (held w64 (toZ w64 n -ℤ pos 2147483648))
   difference-goes = rw (toZ-ofZ difference-fits, widened) (lowered-fits n (omega (arith, f .fits)))

@@ -36,6 +36,7 @@ lines-more : (before : State) (frames : List (List ℕ)) (k : ℕ)
 unfolding linesTo
 lines-more before frames k = refl
 
+-- before the first frame nothing of the body is laid
 pub listing-start : (before : State) (s o : List ℕ) (start : ℕ) {p : Pass} → p ≡ startOf before s → start ≤ length o
     → Listing before s o start o start p
 listing-start before s o start {p} is h =

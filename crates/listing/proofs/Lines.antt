@@ -97,12 +97,14 @@ numbers-put o at mark sy delays p q u =
 
 -- the returns of `put_said`: a refusal, or the numbers
 module _ (o : List ℕ) (at : ℕ) (l : Line) {o₁ : List ℕ} {at₁ : ℕ} where
+  -- of a frame that is refused the refusal is laid
   pub said-refused : (l .refusal ≡ 0 → ⊥) → Put o at (told (ascii " refused ") (l .refusal)) at₁ o₁
       → Put o at (saidOf l) at₁ o₁
   unfolding saidOf
   said-refused w p =
       put-as o at (told (ascii " refused ") (l .refusal)) (saidOf l) (rw (ne-eqb (l .refusal) 0 w)) p
 
+  -- of one that is heard its numbers are laid
   pub said-heard : l .refusal ≡ 0 → Put o at (fields (l .mark ∷ l .sy ∷ l .delays)) at₁ o₁ → Put o at (saidOf l) at₁ o₁
   unfolding saidOf
   said-heard z p = put-as o at (fields (l .mark ∷ l .sy ∷ l .delays)) (saidOf l) (rw (eq-eqb (l .refusal) 0 z)) p

@@ -30,6 +30,7 @@ put-nothing o at h = (omega arith, sym (laid-none o at))
 pub put-length : (o : List ℕ) (at : ℕ) (t : List ℕ) {at′ : ℕ} {o′ : List ℕ} → Put o at t at′ o′ → length o′ ≡ length o
 put-length o at t p = ap length (p .1) ∙ length-laid o at t
 
+-- the position after a put is in the buffer or at its end
 pub put-within : (o : List ℕ) (at : ℕ) (t : List ℕ) {at′ : ℕ} {o′ : List ℕ} → Put o at t at′ o′ → at′ ≤ length o′
 put-within o at t p = omega (arith, p .0, put-length o at t p)
 
@@ -41,10 +42,12 @@ fields-join (m ∷ ms) ns =
     ap (λ (l : List ℕ). ascii " " ++ decimal m ++ l) (fields-join ms ns)
     ∙ sym (append-assoc (ascii " " ++ decimal m) (fields ms) (fields ns))
 
+-- no numbers are no text
 fields-none : [] ≡ fields []
 unfolding fields
 fields-none = refl
 
+-- one number is a space and the number
 fields-one : (n : ℕ) → ascii " " ++ decimal n ≡ fields (n ∷ [])
 unfolding fields
 fields-one n = sym (append-nil (ascii " " ++ decimal n))
@@ -68,11 +71,13 @@ pub record Laying (o : List ℕ) (at : ℕ) (ns o′ : List ℕ) (end k : ℕ) :
   pub put : Put o at (fields (take k ns)) end o′
   pub upto : k ≤ length ns
 
+-- before the first number nothing is laid
 pub laying-start : (o : List ℕ) (at : ℕ) (ns : List ℕ) → at ≤ length o → Laying o at ns o at 0
 laying-start o at ns h =
     record { put = put-as o at [] (fields []) fields-none (put-nothing o at h); upto = omega arith }
 
 module _ {o : List ℕ} {at : ℕ} {ns o′ : List ℕ} {end k : ℕ} (l : Laying o at ns o′ end k) where
+  -- a turn lays one number more
   pub laying-on : k < length ns → {o″ : List ℕ} {end′ : ℕ} → Put o′ end (fields (getD ns k 0 ∷ [])) end′ o″
       → Laying o at ns o″ end′ (k + 1)
   laying-on h p =
@@ -84,5 +89,6 @@ module _ {o : List ℕ} {at : ℕ} {ns o′ : List ℕ} {end k : ℕ} (l : Layin
         upto = omega arith;
       }
 
+  -- after the last all are laid
   pub laying-done : length ns ≤ k → Put o at (fields ns) end o′
   laying-done h = put-as o at (fields (take k ns)) (fields ns) (ap fields (take-all k ns h)) (l .put)

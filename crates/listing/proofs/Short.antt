@@ -52,11 +52,13 @@ pair-short first m second n a b c d =
     let k = decimal-most n 20 (omega arith) d in
     simp length-append (omega arith)
 
+-- the last line has at most a thousand bytes
 last-short : (c : Counts) → c .repaired < 10 ^ 20 → c .breaks < 10 ^ 20 → length (lastLine c) ≤ 1000
 unfolding lastLine
 last-short c a b = let l = pair-short (ascii "repaired ") (c .repaired) (ascii " breaks ") (c .breaks) (omega arith)
     (omega arith) a b in omega arith
 
+-- and so has the first
 head-short : (w : Walk) → w .heading .unit < 10 ^ 20 → w .heading .number < 10 ^ 20 → w .frames < 10 ^ 20
     → length (headLine w) ≤ 1000
 unfolding headLine
@@ -66,6 +68,7 @@ head-short w a b c =
     (omega arith) b c in
     simp length-append (omega arith)
 
+-- a refusal's number has at most twenty digits
 refusal-small : (cause : Cause) → refusalOf cause < 10 ^ 20
 refusal-small TooLong = omega arith
 refusal-small (HeaderCut p) = omega arith
@@ -77,6 +80,7 @@ refusal-small (EndMissing p) = omega arith
 refusal-small (WrongCount p) = omega arith
 refusal-small (Extra p) = omega arith
 
+-- the line of a refused recording has at most a thousand bytes
 refused-short : (cause : Cause) → placeShown (toldOf cause) < 10 ^ 20 → length (refusedLine cause) ≤ 1000
 unfolding refusedLine
 refused-short cause a =
@@ -97,10 +101,12 @@ fields-short (n ∷ ns) h =
     let l : length (fields ns) ≤ 5 * length ns = fields-short ns (λ k m. h (suc k) (omega arith)) in
     simp length-append (omega arith)
 
+-- a number of d digits takes at most one byte more
 field-short : (n d : ℕ) (ns : List ℕ) → 1 ≤ d → n < 10 ^ d → length (fields (n ∷ ns)) ≤ d + 1 + length (fields ns)
 unfolding fields
 field-short n d ns a h = let l : length (decimal n) ≤ d = decimal-most n d a h in simp length-append (omega arith)
 
+-- no numbers take no bytes
 fields-none : length (fields []) ≡ 0
 unfolding fields
 fields-none = refl
@@ -148,6 +154,7 @@ module _ (before : State) (f : List ℕ) where
       let l = said-short in
       simp length-append (omega arith)
 
+-- each of the frames' lines has at most 35 bytes
 lines-short : (before : State) (frames : List (List ℕ)) (k : ℕ) → k ≤ length frames → k ≤ 3640
     → length (linesTo before frames k) ≤ 35 * k
 unfolding linesTo
@@ -159,6 +166,7 @@ lines-short before frames (suc k) h m =
 
 -- ---- the whole
 
+-- all lines after the first together leave room for the first
 body-short : (before : State) (frames : List (List ℕ)) → length frames ≤ 3640 → length (bodyOf before frames) ≤ 128400
 unfolding bodyOf
 body-short before frames h =

@@ -34,12 +34,14 @@ unfoldable pub Placed : Ending → Type 0
 Placed Sound = Unit
 Placed (Refused cause) = placeShown (toldOf cause) ≤ longest
 
+-- the place of a block's refusal
 PlacedBlock : Block → Type 0
 PlacedBlock (Head heading) = Unit
 PlacedBlock (Voice size) = Unit
 PlacedBlock (End told) = Unit
 PlacedBlock (Broken cause) = placeShown (toldOf cause) ≤ longest
 
+-- the place of a step's refusal
 PlacedMove : Moved → Type 0
 PlacedMove (On w) = Unit
 PlacedMove (Done ending) = Placed ending
@@ -101,6 +103,7 @@ module _ (s : List ℕ) (bytes : (i : ℕ) → getD s i 0 < 256) where
           let a = head-held s (w .at) h e .1 in
           (rw a (word-small s bytes (w .at + 6)), rw a (word-small s bytes (w .at + 10)))
 
+  -- what an answered walk tells is small
   pub walked-small : Small s (walkedOf s .walk)
   walked-small =
       walked-keeps s (Small s) small-on
@@ -108,6 +111,7 @@ module _ (s : List ℕ) (bytes : (i : ℕ) → getD s i 0 < 256) where
 
   -- ---- the whole
 
+  -- the place of its refusal is in the recording or at its end
   pub walked-placed : Placed (walkedOf s .ending)
   unfolding Placed PlacedMove
   walked-placed = go (decLe (length s) longest)

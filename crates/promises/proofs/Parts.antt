@@ -100,6 +100,7 @@ blocks-next (p ∷ ps) (suc k) l =
     let b = blocks-more p (take k ps) in
     omega (arith, r, a, b)
 
+-- the first k blocks take no more bytes than all
 blocks-most : (ps : List (List ℕ)) (k : ℕ) → length (voiceBlocks (take k ps)) ≤ length (voiceBlocks ps)
 blocks-most ps zero = let a = blocks-none in omega (arith, a)
 blocks-most [] (suc k) = omega arith

@@ -16,23 +16,29 @@ use Rattle.recording.specs.declared.Counts.{Counts}
 
 -- the returns of `repair_by`: 0 where the number is 0, or else 1
 module _ (r : Reading) where
+  -- number 0 is no repair
   pub repair-none : {n : ℕ} → n ≡ correctionNumber r → n ≡ 0 → 0 ≡ repairBy r
   repair-none is z = rw (eq-eqb (correctionNumber r) 0 (sym is ∙ z))
 
+  -- any other is one
   pub repair-one : {n : ℕ} → n ≡ correctionNumber r → (n ≡ 0 → ⊥) → 1 ≡ repairBy r
   repair-one is z = rw (ne-eqb (correctionNumber r) 0 (λ e. z (is ∙ e)))
 
 -- the returns of `break_by`: 0 where SY is 0 at an odd number or 1 at an even one, or else 1
 module _ (n : ℕ) (r : Reading) where
+  -- SY 0 at an odd number is no break
   pub odd-none : n % 2 ≡ 1 → r .indices .sy ≡ 0 → 0 ≡ breakBy n r
   odd-none o e = rw (eq-eqb (n % 2) 1 o, eq-eqb (r .indices .sy) 0 e)
 
+  -- any other SY there is one
   pub odd-one : n % 2 ≡ 1 → (r .indices .sy ≡ 0 → ⊥) → 1 ≡ breakBy n r
   odd-one o e = rw (eq-eqb (n % 2) 1 o, ne-eqb (r .indices .sy) 0 e)
 
+  -- SY 1 at an even number is no break
   pub even-none : (n % 2 ≡ 1 → ⊥) → r .indices .sy ≡ 1 → 0 ≡ breakBy n r
   even-none o e = rw (ne-eqb (n % 2) 1 o, eq-eqb (r .indices .sy) 1 e)
 
+  -- any other SY there is one
   pub even-one : (n % 2 ≡ 1 → ⊥) → (r .indices .sy ≡ 1 → ⊥) → 1 ≡ breakBy n r
   even-one o e = rw (ne-eqb (n % 2) 1 o, ne-eqb (r .indices .sy) 1 e)
 
@@ -41,9 +47,11 @@ one-at-most : (b : Bool) → cond b 0 1 ≤ 1
 one-at-most true = omega arith
 one-at-most false = omega arith
 
+-- a frame counts at most one repair
 pub repair-small : (r : Reading) → repairBy r ≤ 1
 repair-small r = one-at-most (eqb (correctionNumber r) 0)
 
+-- and at most one break
 pub break-small : (n : ℕ) (r : Reading) → breakBy n r ≤ 1
 break-small n r = one-at-most (eqb (r .indices .sy) (syncAt n))
 
@@ -78,6 +86,7 @@ module _ (frames : List (List ℕ)) where
             (λ n a b. repair-small (readingOf (frameAt frames n))),
       )
 
+  -- no more breaks than frames are counted
   pub breaks-few : (k : ℕ) → countsTo frames k .breaks ≤ k
   unfolding countsTo
   breaks-few k =

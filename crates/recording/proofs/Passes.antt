@@ -51,9 +51,11 @@ module _ (s : List ℕ) (before : State) {w : Walked} (is : w ≡ walkedOf s) {p
       begun ∙ ap (λ (x : Ending). begunAt (ifSound x (w .walk .voices) (length s)) before) (sym ends)
       ∙ ap (λ (x : Walked). begunAt (ifSound (x .ending) (x .walk .voices) (length s)) before) is
 
+  -- the start of a sound recording is at its voice blocks
   pub start-sound : w .ending ≡ Ending.Sound → p ≡ begunAt (w .walk .voices) before → p ≡ startOf before s
   start-sound = started Ending.Sound
 
+  -- that of a refused one is at its end
   pub start-refused : {cause : Cause} → w .ending ≡ Ending.Refused cause → p ≡ begunAt (length s) before
       → p ≡ startOf before s
   start-refused {cause} = started (Ending.Refused cause)
@@ -72,14 +74,17 @@ start-walk s {walk} {before} e ends begun =
 
 -- of `Pass::ahead`: nothing for a pass that was not begun here
 module _ (s : List ℕ) (p : Pass) where
+  -- a pass through too many frames is at its end
   pub ahead-many : longest < p .frames → Nothing ≡ aheadOf s p
   unfolding aheadOf
   ahead-many h = rw (lt-leb (p .frames) longest h)
 
+  -- so is one that counted more repairs than frames
   pub ahead-repaired : p .frames ≤ longest → p .frames < p .counts .repaired → Nothing ≡ aheadOf s p
   unfolding aheadOf
   ahead-repaired m h = rw (le-leb (p .frames) longest m, lt-leb (p .counts .repaired) (p .frames) h)
 
+  -- and one that counted more breaks than frames
   pub ahead-broken : p .frames ≤ longest → p .counts .repaired ≤ p .frames → p .frames < p .counts .breaks
       → Nothing ≡ aheadOf s p
   unfolding aheadOf
@@ -90,6 +95,7 @@ module _ (s : List ℕ) (p : Pass) where
         lt-leb (p .counts .breaks) (p .frames) h,
       )
 
+  -- any other goes to the frame that is found
   pub ahead-found : p .frames ≤ longest → p .counts .repaired ≤ p .frames → p .counts .breaks ≤ p .frames
       → aheadOf s p ≡ foundAt s (p .at) (p .left)
   unfolding aheadOf
@@ -107,6 +113,7 @@ module _ (s : List ℕ) (p : Pass) where
     pub seldom : p .counts .breaks ≤ p .frames
     pub found : foundAt s (p .at) (p .left) ≡ At first rest
 
+  -- what is known of a pass that has a frame ahead
   pub ahead-is : (first rest : ℕ) → aheadOf s p ≡ At first rest → Ahead first rest
   unfolding aheadOf
   ahead-is first rest = go (leb (p .frames) longest) (leb (p .counts .repaired) (p .frames))
@@ -144,6 +151,7 @@ stayed p e = λ i. record { hearing = e i; pass = p }
 
 -- of `Pass::hear`
 module _ (s : List ℕ) (p : Pass) where
+  -- a step to a frame hears it and goes past it
   pub went-past : (first rest : ℕ) {h : Hearing} {q : Pass}
       → h ≡ hearingOf (p .state) (part s first (first + 18 - first))
       → q ≡ pastFrame p h (first + 18) rest → record { hearing = h; pass = q } ≡ stepBy s p (At first rest)
@@ -176,6 +184,7 @@ frames-few s (suc n) at left h = go (foundAt s at left) refl (frames-few s n)
         rw (frames-more s at left first rest e) (omega (arith, w .on, w .fits))
     go Nothing e more = rw (frames-none s at left e) (omega arith)
 
+-- all frames are within the bytes
 pub frames-fit : (s : List ℕ) → 18 * length (framesOf s) ≤ length s
 frames-fit s = go (walkedOf s .ending) refl
   where
@@ -211,6 +220,7 @@ left-some d xs k y ys e = go (decLt k (length xs))
         let q = e ∙ drop-of-length-le xs n in
         absurd (let z : _≡_ {A = ℕ} 0 1 = cc in omega arith)
 
+-- where nothing is left of a list, all of it was passed
 left-none : {A : Type 0} (d : A) (xs : List A) (k : ℕ) → [] ≡ drop k xs → length xs ≤ k
 left-none d xs k e = go (decLt k (length xs))
   where
@@ -310,6 +320,7 @@ module _ (before : State) (s : List ℕ) (p : Pass) (q : Passing before s p) whe
       all : p .frames ≡ length (framesOf s) → take (p .frames) (framesOf s) ≡ framesOf s
       all m = take-all (p .frames) (framesOf s) (omega arith)
 
+  -- the step of a pass on its way hears the next frame and goes past it, or is at the end
   pub passing-next : Stepping before s p (nextOf s p)
   unfolding nextOf
   passing-next = rw ours (stepped (foundAt s (p .at) (p .left)) refl)

@@ -47,6 +47,7 @@ module _ {before : State} {s : List ℕ} {p : Pass} (q : Passing before s p) {t 
       go (past l h n o) = h ∙ sym (heard-there before (framesOf s) (p .frames) l)
       go (ended e h n) = h ∙ sym (heard-beyond before (framesOf s) (p .frames) (omega arith))
 
+  -- a step that passed a frame heard the next one
   pub step-further : (t .pass .frames ≡ p .frames → ⊥) → Further before s p t
   step-further w = go stepping
     where
@@ -78,10 +79,12 @@ module _ {before : State} {s : List ℕ} {p : Pass} (q : Passing before s p) {t 
 pub on-its-way : (before : State) (s : List ℕ) {p : Pass} → p ≡ startOf before s → Passing before s p
 on-its-way before s is = subst (Passing before s) (sym is) (passing-start before s)
 
+-- at the start no frame was passed
 pub none-passed : (before : State) (s : List ℕ) → startOf before s .frames ≡ 0
 unfolding startOf
 none-passed before s = refl
 
+-- and the state is the one given
 start-state : (before : State) (s : List ℕ) → startOf before s .state ≡ before
 unfolding startOf
 start-state before s = refl
@@ -94,6 +97,7 @@ record After (before : State) (s : List ℕ) (k : ℕ) (p : Pass) : Type 0 where
   some : k ≤ length (framesOf s) → p .frames ≡ k
   all : length (framesOf s) ≤ k → p .frames ≡ length (framesOf s)
 
+-- one step more
 after-next : (before : State) (s : List ℕ) (k : ℕ) (p : Pass) → After before s k p
     → After before s (suc k) (nextOf s p .pass)
 after-next before s k p a = go (nextOf s p) (passing-next before s p (a .passing))
@@ -110,6 +114,7 @@ after-next before s k p a = go (nextOf s p) (passing-next before s p (a .passing
     go t (ended e h n) =
         rw n (record { passing = a .passing; some = λ m. let f = a .some (omega arith) in omega arith; all = λ m. e })
 
+-- what a pass holds after k steps
 pass-after : (before : State) (s : List ℕ) (k : ℕ) → After before s k (passAt before s k)
 unfolding passAt
 pass-after before s zero =
@@ -178,6 +183,7 @@ pub record Going (before : State) (s : List ℕ) (k : ℕ) (p : Pass) (ahead : �
   pub here : p ≡ passAt before s (k - ahead)
   pub upto : ahead ≤ k
 
+-- before the first turn all k steps are ahead
 pub going-start : (before : State) (s : List ℕ) (k : ℕ) {p : Pass} → p ≡ startOf before s → Going before s k p k
 unfolding passAt
 going-start before s k is =
@@ -185,6 +191,7 @@ going-start before s k is =
     record { here = is ∙ ap (passAt before s) (sym z); upto = omega arith }
 
 module _ {before : State} {s : List ℕ} {k ahead : ℕ} {p : Pass} (g : Going before s k p ahead) where
+  -- a turn takes one of them
   pub going-on : {t : Step} → t ≡ nextOf s p → 0 < ahead → Going before s k (t .pass) (ahead - 1)
   going-on is h =
       let n : suc (k - ahead) ≡ k - (ahead - 1) = omega (arith, g .upto) in
@@ -204,6 +211,7 @@ module _ {before : State} {s : List ℕ} {k ahead : ℕ} {p : Pass} (g : Going b
       stays : (j : ℕ) → p ≡ passAt before s j → nextOf s (passAt before s j) .pass .frames ≡ passAt before s j .frames
       stays j q = rw (sym q) (rw (sym is) e)
 
+  -- with none ahead the pass is the one after k steps
   pub going-done : ahead ≤ 0 → p ≡ passAt before s k
   going-done h = let n : k - ahead ≡ k = omega arith in g .here ∙ ap (passAt before s) n
 
@@ -236,6 +244,7 @@ module _ (s : List ℕ) (k : ℕ) {fresh before : State} (same : fresh ≡ befor
 
 -- ---- the return of `summarize`, and those of `judge`
 
+-- after as many steps as there are bytes the counts are those of all frames
 pub all-summed : (s : List ℕ) (w : Walk) (before : State) {q : Pass} → q ≡ passAt before s (length s)
     → summaryOf w (q .counts) ≡ summaryOf w (countsOf (framesOf s))
 all-summed s w before is =
@@ -251,9 +260,11 @@ module _ (s : List ℕ) {w : Walked} (is : w ≡ walkedOf s) where
       ∙ ap (λ (x : Counts). judgedBy (w .ending) (summaryOf (w .walk) x)) counted
       ∙ ap (λ (x : Walked). judgedBy (x .ending) (summaryOf (x .walk) (countsOf (framesOf s)))) is
 
+  -- a refused walk is judged so
   pub judge-refused : {cause : Cause} → w .ending ≡ Ending.Refused cause → Refused cause ≡ judgedOf s
   judge-refused {cause} ends = judged (Ending.Refused cause) ends refl
 
+  -- a sound one is judged by its walk and the counts of its frames
   pub judge-sound : w .ending ≡ Ending.Sound → {x : Summary} → x ≡ summaryOf (w .walk) (countsOf (framesOf s))
       → Sound x ≡ judgedOf s
   judge-sound ends counted = ap Sound counted ∙ judged Ending.Sound ends refl

@@ -28,9 +28,11 @@ raised-below (negsuc n) f = omega arith
 
 -- the sum as the code makes it, at 64 bits: it fits, and is that
 module _ {x : ℤ} (f : SFits w32 x) where
+  -- the sum fits 64 bits
   pub sum-fits : SFits w64 (held w64 (held w32 x) +ℤ pos 2147483648)
   sum-fits = rw (cast-is w64 f tt, raised-sum x f) (sfits-of (omega (arith, raised-below x f)))
 
+  -- and is the number raised
   pub sum-is : held w64 (held w64 (held w32 x) +ℤ pos 2147483648) ≡ pos (raisedOf x)
   sum-is = toZ-ofZ sum-fits ∙ ap (λ (z : ℤ). z +ℤ pos 2147483648) (cast-is w64 f tt) ∙ raised-sum x f
 
