@@ -50,11 +50,11 @@ module _ (f i : ℕ) (h : f < 29) (l : i < bitsIn f) where
       (below (λ (i : ℕ). found-at f i (placeOf f i)) (bitsIn f) (below found 29 all-found f h) i l) in
       (leb→le 1 p (t .0), leb→le p 144 (t .1), eqb→eq (fieldAt p) f (t .2), eqb→eq (bitIn p) i (t .3))
 
-  -- its place is one of 1 to 144
+  -- its place is 1 or more
   pub place-first : 1 ≤ placeOf f i
   place-first = told .0
 
-  -- and not past the last
+  -- and at most 144
   pub place-last : placeOf f i ≤ 144
   place-last = told .1
 

@@ -88,11 +88,11 @@ module _ (n : ℕ) (a : 1 ≤ n) (h : n ≤ 15) where
   pub guarded-place : guardedPlace n ≡ placeOf (guardedField n) (guardedBit n)
   guarded-place = place-is n a
 
-  -- its place is one of 1 to 144
+  -- its place is 1 or more
   pub guarded-first : 1 ≤ guardedPlace n
   guarded-first = rw guarded-place (place-first (guardedField n) (guardedBit n) guarded-field-small guarded-bit-small)
 
-  -- and not past the last
+  -- and at most 144
   pub guarded-last : guardedPlace n ≤ 144
   guarded-last = rw guarded-place (place-last (guardedField n) (guardedBit n) guarded-field-small guarded-bit-small)
 

@@ -93,11 +93,11 @@ module _ (k i : ℕ) (h : k < 18) (l : i < 8) where
       let t = each-of-four (leb 1 p) (leb p 144) (eqb (byteOf p) k) (eqb (shiftOf p) i) found in
       (leb→le 1 p (t .0), leb→le p 144 (t .1), eqb→eq (byteOf p) k (t .2), eqb→eq (shiftOf p) i (t .3))
 
-  -- the place of a byte and a bit is one of 1 to 144
+  -- the place of a byte and a bit is 1 or more
   pub there-first : 1 ≤ placeAt k i
   there-first = stands .0
 
-  -- and not past the last
+  -- and at most 144
   pub there-last : placeAt k i ≤ 144
   there-last = stands .1
 

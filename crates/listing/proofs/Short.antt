@@ -52,7 +52,7 @@ pair-short first m second n a b c d =
     let k = decimal-most n 20 (omega arith) d in
     simp length-append (omega arith)
 
--- the last line has at most a thousand bytes
+-- the last line has at most a thousand bytes, with counts of at most twenty digits
 last-short : (c : Counts) → c .repaired < 10 ^ 20 → c .breaks < 10 ^ 20 → length (lastLine c) ≤ 1000
 unfolding lastLine
 last-short c a b = let l = pair-short (ascii "repaired ") (c .repaired) (ascii " breaks ") (c .breaks) (omega arith)
@@ -101,7 +101,7 @@ fields-short (n ∷ ns) h =
     let l : length (fields ns) ≤ 5 * length ns = fields-short ns (λ k m. h (suc k) (omega arith)) in
     simp length-append (omega arith)
 
--- a number of d digits takes at most one byte more
+-- a number below 10 to the d takes at most a space and d bytes
 field-short : (n d : ℕ) (ns : List ℕ) → 1 ≤ d → n < 10 ^ d → length (fields (n ∷ ns)) ≤ d + 1 + length (fields ns)
 unfolding fields
 field-short n d ns a h = let l : length (decimal n) ≤ d = decimal-most n d a h in simp length-append (omega arith)
@@ -154,7 +154,7 @@ module _ (before : State) (f : List ℕ) where
       let l = said-short in
       simp length-append (omega arith)
 
--- each of the frames' lines has at most 35 bytes
+-- the lines of the first k frames take at most 35 bytes a frame
 lines-short : (before : State) (frames : List (List ℕ)) (k : ℕ) → k ≤ length frames → k ≤ 3640
     → length (linesTo before frames k) ≤ 35 * k
 unfolding linesTo
@@ -166,7 +166,7 @@ lines-short before frames (suc k) h m =
 
 -- ---- the whole
 
--- all lines after the first together leave room for the first
+-- all lines after the first together take at most 128,400 bytes
 body-short : (before : State) (frames : List (List ℕ)) → length frames ≤ 3640 → length (bodyOf before frames) ≤ 128400
 unfolding bodyOf
 body-short before frames h =

@@ -97,7 +97,7 @@ record After (before : State) (s : List ℕ) (k : ℕ) (p : Pass) : Type 0 where
   some : k ≤ length (framesOf s) → p .frames ≡ k
   all : length (framesOf s) ≤ k → p .frames ≡ length (framesOf s)
 
--- one step more
+-- the next step of a pass after k steps makes it one after k + 1
 after-next : (before : State) (s : List ℕ) (k : ℕ) (p : Pass) → After before s k p
     → After before s (suc k) (nextOf s p .pass)
 after-next before s k p a = go (nextOf s p) (passing-next before s p (a .passing))
@@ -126,7 +126,7 @@ pass-after before s zero =
     }
 pass-after before s (suc k) = after-next before s k (passAt before s k) (pass-after before s k)
 
--- one step more
+-- the next step of a pass after k steps makes it one after k + 1
 pass-on : (before : State) (s : List ℕ) (k : ℕ) → nextOf s (passAt before s k) .pass ≡ passAt before s (suc k)
 unfolding passAt
 pass-on before s k = refl
