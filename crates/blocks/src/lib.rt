@@ -1,15 +1,10 @@
-// The blocks of a recording, walked one after the other to an answer; its voice blocks, and where the frames in them stand.
-// A walk comes to a place of the bytes and knows what it has passed; what stands there takes it on or ends it.
-ghost use denote.Ref.{ptr};
+// The blocks of a recording: what stands at a place of its bytes, why there is no block there, and the types of a walk through them.
 ghost use mathlib.Core.Path.{_≡_};
-ghost use Prim.Native.Nat.{_+_, _-_, _*_, _≤_, _<_};
+ghost use Prim.Native.Nat.{_+_, _≤_, _<_};
 ghost use lib.ListN.{length, getD};
 ghost use Rattle.laws.specs.Bytes.{pairAt, wordAt};
 ghost use Rattle.blocks.specs.Refusals.{refusalOf, toldOf};
 ghost use Rattle.blocks.specs.Blocks.{rightSize, headingAt, blockAt};
-ghost use Rattle.blocks.specs.Walk.{longest, refuse, atHead, atVoice, endingAt, stepOf, walkFrom, walkedOf};
-ghost use Rattle.blocks.specs.declared.Moved.the-variants.{Done};
-ghost use Rattle.blocks.specs.Frames.{voiceSize, spansFrom, nowhere, spanOf, voiceBlockOf, bytesOn, foundAt};
 
 // Why a recording is refused, and the place that is told.
 pub enum Cause {
@@ -152,7 +147,7 @@ fn word(s: &[u8], at: usize) -> u32
 }
 
 // What stands at any place of any bytes.
-fn block_at(s: &[u8], at: usize) -> Block
+pub fn block_at(s: &[u8], at: usize) -> Block
     ensures { λ r. ⌜ r ≡ blockAt (now (s .entry)) at ⌝ }
 {
     let long = s.len();
@@ -222,211 +217,4 @@ fn right_size(kind: u32, size: usize) -> bool
         return size == 4;
     }
     true
-}
-
-// One step of a walk.
-fn advance(s: &[u8], w: Walk) -> Moved
-    requires { ⌜ length (now s) ≤ longest ⌝ }
-    requires { ⌜ 18 * w .frames ≤ w .at ⌝ }
-    ensures { λ r. ⌜ r ≡ stepOf (now (s .entry)) w ⌝ }
-{
-    let at = w.at;
-    let frames = w.frames;
-    match block_at(s, at) {
-        Block::Head(heading) => meet_head(w, heading),
-        Block::Voice(size) => meet_voice(w, size),
-        Block::End(told) => meet_end(s.len(), at, frames, told),
-        Block::Broken(cause) => refuse(cause),
-    }
-}
-
-// A step to a refusal.
-fn refuse(cause: Cause) -> Moved
-    ensures { λ r. ⌜ r ≡ refuse cause ⌝ }
-{
-    Moved::Done(Ending::Refused(cause))
-}
-
-// A walk that comes to a head: past it, where none was passed before.
-fn meet_head(w: Walk, heading: Heading) -> Moved
-    requires { ⌜ w .at + 6 + 8 ≤ longest ⌝ }
-    ensures { λ r. ⌜ r ≡ atHead w heading ⌝ }
-{
-    let at = w.at;
-    if w.headed {
-        return refuse(Cause::OutOfTurn(at));
-    }
-    let next = at + 6 + 8;
-    Moved::On(Walk {
-        at: next,
-        headed: true,
-        heading,
-        voices: next,
-        frames: w.frames,
-    })
-}
-
-// A walk that comes to a voice block: past it and its frames, where the head was passed before.
-fn meet_voice(w: Walk, size: usize) -> Moved
-    requires { ⌜ w .at + 6 + size ≤ longest ⌝ }
-    requires { ⌜ 18 * w .frames ≤ w .at ⌝ }
-    ensures { λ r. ⌜ r ≡ atVoice w size ⌝ }
-{
-    let at = w.at;
-    if w.headed {
-        let next = at + 6 + size;
-        let more = (size / 18) as u32;
-        let frames = w.frames + more;
-        let mut further = w;
-        further.at = next;
-        further.frames = frames;
-        return Moved::On(further);
-    }
-    refuse(Cause::OutOfTurn(at))
-}
-
-// A walk past so many frames that comes to an end block that tells a number of frames, in so many bytes in all.
-fn meet_end(long: usize, at: usize, frames: u32, told: u32) -> Moved
-    requires { ⌜ at + 6 + 4 ≤ longest ⌝ }
-    ensures { λ r. ⌜ r ≡ Done (endingAt long at frames told) ⌝ }
-{
-    Moved::Done(ending_at(long, at, frames, told))
-}
-
-// How it ends there.
-fn ending_at(long: usize, at: usize, frames: u32, told: u32) -> Ending
-    requires { ⌜ at + 6 + 4 ≤ longest ⌝ }
-    ensures { λ r. ⌜ r ≡ endingAt long at frames told ⌝ }
-{
-    if frames == 0 {
-        return Ending::Refused(Cause::OutOfTurn(at));
-    }
-    if told != frames {
-        return Ending::Refused(Cause::WrongCount(at));
-    }
-    let after = at + 6 + 4;
-    if long != after {
-        return Ending::Refused(Cause::Extra(after));
-    }
-    Ending::Sound
-}
-
-// Walks through the blocks of any bytes: what was passed, and whether the recording is sound or why it is refused.
-pub fn walk_through(s: &[u8]) -> Walked
-    ensures { λ r. ⌜ r ≡ walkedOf (now (s .entry)) ⌝ }
-{
-    let walk = Walk {
-        at: 0,
-        headed: false,
-        heading: Heading { unit: 0, number: 0 },
-        voices: 0,
-        frames: 0,
-    };
-    if 65536 < s.len() {
-        return Walked {
-            walk,
-            ending: Ending::Refused(Cause::TooLong),
-        };
-    }
-    walk_from(s, walk)
-}
-
-// The same from any block on, step by step to the end.
-fn walk_from(s: &[u8], start: Walk) -> Walked
-    requires { ⌜ length (now s) ≤ longest ⌝ }
-    requires { ⌜ 18 * start .frames ≤ start .at ⌝ }
-    ensures { λ r. ⌜ r ≡ walkFrom (now (s .entry)) start ⌝ }
-{
-    let mut walk = start;
-    loop {
-        match advance(s, walk) {
-            Moved::On(next) => walk = next,
-            Moved::Done(ending) => return Walked { walk, ending },
-        }
-    }
-}
-
-// The payload of the k-th voice block, counted from 0, as that part of the bytes; the empty part where there is none.
-pub fn voice_block(s: &[u8], k: usize) -> &[u8]
-    ensures { λ r. ⌜ now r ≡ voiceBlockOf (now (s .entry)) k ⌝ }
-    ensures { λ r. ⌜ ptr r ≡ bytesOn (ptr (s .entry)) (spanOf (now (s .entry)) k .from) ⌝ }
-{
-    let span = voice_span(s, k);
-    let from = span.from;
-    let to = span.to;
-    &s[from..to]
-}
-
-// Where the payload of the k-th voice block stands; from 0 to 0 where there is none.
-pub fn voice_span(s: &[u8], k: usize) -> Span
-    ensures { λ r. ⌜ r ≡ spanOf (now (s .entry)) k ⌝ }
-{
-    let walked = walk_through(s);
-    let ending = walked.ending;
-    match ending {
-        Ending::Refused(_) => Span { from: 0, to: 0 },
-        Ending::Sound => {
-            let voices = walked.walk.voices;
-            span_from(s, voices, k)
-        }
-    }
-}
-
-// The same of the voice blocks from a place on.
-fn span_from(s: &[u8], voices: usize, k: usize) -> Span
-    ensures { λ r. ⌜ r ≡ getD (spansFrom (now (s .entry)) voices) k nowhere ⌝ }
-{
-    let mut at = voices;
-    let mut before = k;
-    loop {
-        let size = voice_size(s, at);
-        if size == 0 {
-            return Span { from: 0, to: 0 };
-        }
-        let from = at + 6;
-        let to = from + size;
-        if before == 0 {
-            return Span { from, to };
-        }
-        before -= 1;
-        at = to;
-    }
-}
-
-// The size of the payload of the voice block at a place; 0 where there is none.
-fn voice_size(s: &[u8], at: usize) -> usize
-    ensures { λ r. ⌜ r ≡ voiceSize (now (s .entry)) at ⌝ }
-{
-    match block_at(s, at) {
-        Block::Head(_) => 0,
-        Block::Voice(size) => size,
-        Block::End(_) => 0,
-        Block::Broken(_) => 0,
-    }
-}
-
-// The next frame from a place on, where `left` bytes of a voice block are left; with none left, the first of the voice block there.
-pub fn find(s: &[u8], at: usize, left: usize) -> Found
-    ensures { λ r. ⌜ r ≡ foundAt (now (s .entry)) at left ⌝ }
-{
-    if left == 0 {
-        let size = voice_size(s, at);
-        if size == 0 {
-            return Found::Nothing;
-        }
-        let first = at + 6;
-        let rest = size - 18;
-        return Found::At(first, rest);
-    }
-    if left < 18 {
-        return Found::Nothing;
-    }
-    if s.len() < 18 {
-        return Found::Nothing;
-    }
-    if s.len() - 18 < at {
-        return Found::Nothing;
-    }
-    let rest = left - 18;
-    Found::At(at, rest)
 }

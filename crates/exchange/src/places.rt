@@ -48,7 +48,7 @@ fn kept(state: State) {
 
 // The next frame from any place, with any number of bytes left: its first byte and how many come after it, or nothing.
 pub fn find(s: &[u8], n: usize) {
-    match blocks::find(s, n % 256, n / 256) {
+    match voices::find(s, n % 256, n / 256) {
         Found::Nothing => {}
         Found::At(first, rest) => {
             say::number(first);

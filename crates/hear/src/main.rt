@@ -98,7 +98,7 @@ fn head(summary: Summary) -> bool {
 fn voices(s: &[u8]) -> bool {
     let mut k = 0;
     while k < 65536 {
-        let size = blocks::voice_block(s, k).len();
+        let size = voices::voice_block(s, k).len();
         if !block(s, k, size) {
             return false;
         }
@@ -112,7 +112,7 @@ fn voices(s: &[u8]) -> bool {
 
 // `block K AT LEN`.
 fn block(s: &[u8], k: usize, size: usize) -> bool {
-    let span = blocks::voice_span(s, k);
+    let span = voices::voice_span(s, k);
     let mut out = line::blank();
     let number = line::told(&mut out, 0, b"block", k as u64);
     let at = line::number(&mut out, number, span.from as u64);

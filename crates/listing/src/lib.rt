@@ -43,7 +43,7 @@ pub fn list(s: &[u8], out: &mut [u8]) -> Listed
     if out.len() != 131072 {
         return Listed::WrongLength;
     }
-    let walked = blocks::walk_through(s);
+    let walked = walk::walk_through(s);
     let ending = walked.ending;
     match ending {
         Ending::Refused(cause) => {

@@ -63,7 +63,7 @@ pub struct Step {
 pub fn judge(s: &[u8]) -> Judged
     ensures { λ r. ⌜ r ≡ judgedOf (now (s .entry)) ⌝ }
 {
-    let walked = blocks::walk_through(s);
+    let walked = walk::walk_through(s);
     let ending = walked.ending;
     match ending {
         Ending::Refused(cause) => Judged::Refused(cause),
@@ -110,7 +110,7 @@ fn pass_after(s: &[u8], k: usize, start: Pass) -> Pass
 pub fn start(s: &[u8], state: State) -> Pass
     ensures { λ r. ⌜ r ≡ startOf state (now (s .entry)) ⌝ }
 {
-    let walked = blocks::walk_through(s);
+    let walked = walk::walk_through(s);
     let ending = walked.ending;
     match ending {
         Ending::Sound => begin(walked.walk, state),
@@ -199,7 +199,7 @@ impl Pass {
         if passed < self.counts.breaks {
             return Found::Nothing;
         }
-        blocks::find(s, self.at, self.left)
+        voices::find(s, self.at, self.left)
     }
 
     // At the end nothing is heard, and the pass stays where it is.

@@ -1,7 +1,0 @@
-use mathlib.Core.Path.{ap}
-use Rattle.blocks.specs.declared.Moved.the-variants.{Done}
-use Rattle.blocks.proofs.meet_end.Statement.{statement}
-use Rattle.blocks.proofs.meet_end.Tie as tie
-
-pub meet-end-spec : {M : Type 1} → statement M
-meet-end-spec = tie.close (tie.spec (λ c κs. c .pre) (λ c. ap Done (c .ending-at .ensures)))

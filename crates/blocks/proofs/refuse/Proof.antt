@@ -1,6 +1,0 @@
-use mathlib.Core.Path.{refl}
-use Rattle.blocks.proofs.refuse.Statement.{statement}
-use Rattle.blocks.proofs.refuse.Tie as tie
-
-pub refuse-spec : {M : Type 1} → statement M
-refuse-spec = tie.close (tie.spec (λ c. refl))
