@@ -16,7 +16,6 @@ fn main() {
 // A recording has at most 65,536 bytes: one byte more is too long, however many follow it.
 fn list_input() {
     let mut recording = [0u8; 65537];
-    let mut text = [0u8; 131072];
     match input::read_all(&mut recording) {
         Input::Failed => {
             io::write_all(
@@ -24,16 +23,27 @@ fn list_input() {
                 b"oatlantern-list: standard input cannot be read\n",
             );
         }
-        Input::Bytes(n) => match listing::list(&recording[..n], &mut text) {
-            Listed::WrongLength => {}
-            Listed::Text(end) => {
-                if !io::write_all(STDOUT_FILENO, &text[..end]) {
-                    io::write_all(
-                        STDERR_FILENO,
-                        b"oatlantern-list: standard output cannot be written\n",
-                    );
-                }
+        Input::Bytes(n) => {
+            if !list(&recording[..n]) {
+                io::write_all(
+                    STDERR_FILENO,
+                    b"oatlantern-list: standard output cannot be written\n",
+                );
             }
-        },
+        }
     }
+}
+
+// Prints the listing of any bytes, and answers whether all was written.
+fn list(s: &[u8]) -> bool {
+    let mut text = blank();
+    match listing::list(s, &mut text) {
+        Listed::WrongLength => true,
+        Listed::Text(end) => io::write_all(STDOUT_FILENO, &text[..end]),
+    }
+}
+
+// Room for the longest listing.
+fn blank() -> [u8; 131072] {
+    [0; 131072]
 }

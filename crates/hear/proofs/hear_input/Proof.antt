@@ -1,9 +1,7 @@
 -- `hear::hear_input` is safe: the bytes read are within their buffer.
 -- Assumes nothing.
-use mathlib.Core.Path.{sym}
 use borrow.Author.Needs.{needs}
-use lib.Seq.{length-take-le}
-use Rattle.input.proofs.Laws.{read-within}
+use Rattle.input.proofs.Laws.{read-within, read-long}
 use Rattle.hear.proofs.hear_input.Statement.{statement}
 use Rattle.hear.proofs.hear_input.Tie as tie
 
@@ -13,8 +11,7 @@ array-share-prefix-recording c =
 
 slice-aggregate-hear : tie.Need-slice-aggregate-hear
 slice-aggregate-hear c =
-    sym (length-take-le _ _ (read-within _ _ _ (c .before .before .before .before .before .read-all .ensures)
-    (c .before .before .n .given .1)))
+    read-long _ _ _ (c .before .before .before .before .before .read-all .ensures) (c .before .before .n .given .1)
 
 pub hear-input-spec : {M : Type 1} → statement M
 hear-input-spec =
