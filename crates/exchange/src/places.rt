@@ -90,8 +90,8 @@ fn passed(pass: Pass) {
 pub fn values(s: &[u8], n: usize) {
     let reading = frame::read(s);
     let indices = reading.indices;
-    let first = values::values_of(indices, State::fresh());
-    let second = values::values_of(altered(indices, n), first.state);
+    let first = decoder::values_of(indices, State::fresh());
+    let second = decoder::values_of(altered(indices, n), first.state);
     heard(second);
 }
 

@@ -154,7 +154,7 @@ impl Hearing {
         ensures { λ r. ⌜ r ≡ hearingOf before (now (bytes .entry)) ⌝ }
     {
         let reading = frame::read(bytes);
-        let values = values::values_of(reading.indices, before);
+        let values = decoder::values_of(reading.indices, before);
         Hearing { reading, values }
     }
 

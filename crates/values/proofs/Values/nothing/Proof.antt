@@ -7,7 +7,7 @@ use Rattle.values.proofs.Values.nothing.Tie as tie
 
 returns : tie.Need-returns
 unfolding nothingHeard
-returns c = c .refused-values .ensures
+returns c = c .refused .ensures
 
 pub nothing-spec : {M : Type 1} → statement M
 nothing-spec = tie.close (tie.spec (λ c κs. omega arith) returns)

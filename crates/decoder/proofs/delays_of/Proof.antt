@@ -1,12 +1,12 @@
--- `values::delays_of` meets its contract: an arm for each meaning of the four codes.
+-- `decoder::delays_of` meets its contract: an arm for each meaning of the four codes.
 -- Assumes nothing.
 use mathlib.Core.Path.{_∙_, sym, ap}
 use native.Mathlib.Omega.{arith}
 use borrow.Author.Needs.{needs}
 use Rattle.delays.specs.Codes.{meantBy}
 use Rattle.values.specs.Values.{delaysIn, delaysOf}
-use Rattle.values.proofs.delays_of.Statement.{statement}
-use Rattle.values.proofs.delays_of.Tie as tie
+use Rattle.decoder.proofs.delays_of.Statement.{statement}
+use Rattle.decoder.proofs.delays_of.Tie as tie
 
 returns : tie.Need-returns
 unfolding delaysOf

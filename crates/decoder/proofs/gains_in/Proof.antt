@@ -1,12 +1,12 @@
--- `values::gains_in` meets its contract.
+-- `decoder::gains_in` meets its contract.
 -- Assumes nothing.
 use mathlib.Core.Path.{_∙_}
 use native.Mathlib.Omega.{arith}
 use borrow.Author.Needs.{sfits-of}
 use mir.Facts.{toZ-ofZ}
 use Rattle.values.proofs.Answered.{four}
-use Rattle.values.proofs.gains_in.Statement.{statement}
-use Rattle.values.proofs.gains_in.Tie as tie
+use Rattle.decoder.proofs.gains_in.Statement.{statement}
+use Rattle.decoder.proofs.gains_in.Tie as tie
 
 returns : tie.Need-returns
 returns c =

@@ -1,12 +1,12 @@
--- `values::heard_values` meets its contract: each step's answer put in its place.
+-- `decoder::heard_values` meets its contract: each step's answer put in its place.
 -- Assumes nothing.
 use mathlib.Core.Path.{_≡_, _∙_, ap}
 use native.Mathlib.Omega.{arith}
 use Rattle.gains.specs.Tables.{cgTable, pgTable}
 use Rattle.values.specs.Values.{cgIndex, pgIndex, inSubframes, gainsOf}
 use Rattle.values.proofs.Answered.{heard-whole}
-use Rattle.values.proofs.heard_values.Statement.{statement}
-use Rattle.values.proofs.heard_values.Tie as tie
+use Rattle.decoder.proofs.heard_values.Statement.{statement}
+use Rattle.decoder.proofs.heard_values.Tie as tie
 
 returns : tie.Need-returns
 unfolding cgTable pgTable
@@ -19,8 +19,8 @@ returns c =
     heard-whole (start .args .r) (start .args .before)
     (cg .gains-in .ensures ∙ ap (gainsOf cgTable) (cg .before .in-subframes .ensures))
     (pg .gains-in2 .ensures ∙ ap (gainsOf pgTable) (pg .before .in-subframes2 .ensures)) (delayed .delays-of .ensures)
-    (hertz .in-hertz .ensures) (c .before .before .before .previous .ensures) (c .before .before .averages .ensures)
-    (c .before .order-mark .ensures) (c .after .ensures)
+    (hertz .in-hertz .ensures) (c .before .before .before .previous-of .ensures) (c .before .before .averages .ensures)
+    (c .before .order-mark .ensures) (c .state-after .ensures)
 
 pub heard-values-spec : {M : Type 1} → statement M
 heard-values-spec =

@@ -1,4 +1,4 @@
--- `values::gain_in` meets its contract: an arm for each answer of the look-up.
+-- `decoder::gain_in` meets its contract: an arm for each answer of the look-up.
 -- Assumes nothing.
 use mathlib.Core.Path.{_∙_, sym, ap}
 use native.Mathlib.Omega.{arith}
@@ -6,9 +6,9 @@ use borrow.Author.Needs.{needs}
 use mir.Facts.{toZ-ofZ}
 use mir.Syntax.{w32}
 use mir.Val.{SFits}
 use Rattle.values.specs.Values.{valueIn}
-use Rattle.values.proofs.gain_in.Statement.{statement}
-use Rattle.values.proofs.gain_in.Tie as tie
+use Rattle.decoder.proofs.gain_in.Statement.{statement}
+use Rattle.decoder.proofs.gain_in.Tie as tie
 
 returns : tie.Need-returns
 returns c =

@@ -1,15 +1,15 @@
--- `values::values_of` meets its contract: a return for each outcome.
+-- `decoder::values_of` meets its contract: a return for each outcome.
 -- Assumes nothing.
 use native.Mathlib.Omega.{arith}
 use Rattle.values.proofs.Answered.{field-told, expansion-told, heard-told}
-use Rattle.values.proofs.values_of.Statement.{statement}
-use Rattle.values.proofs.values_of.Tie as tie
+use Rattle.decoder.proofs.values_of.Statement.{statement}
+use Rattle.decoder.proofs.values_of.Tie as tie
 
 returns : tie.Need-returns
 returns c =
     let s = c .before .before in
     field-told (s .before .args .r) (s .before .args .before) (s .too-large .ensures) (c .before .if1 .taken)
-    (c .refused-values .ensures)
+    (c .refused .ensures)
 
 returns-2 : tie.Need-returns-2
 returns-2 c =
@@ -17,7 +17,7 @@ returns-2 c =
     let s = one .before in
     expansion-told (s .before .args .r) (s .before .args .before) (s .too-large .ensures) (one .if1 .left)
     (c .before .if2 .taken)
-    (c .refused-values2 .ensures)
+    (c .refused2 .ensures)
 
 returns-3 : tie.Need-returns-3
 returns-3 c =

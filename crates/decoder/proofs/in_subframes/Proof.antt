@@ -1,9 +1,9 @@
--- `values::in_subframes` meets its contract.
+-- `decoder::in_subframes` meets its contract.
 -- Assumes nothing.
 use native.Mathlib.Omega.{arith}
 use Rattle.values.proofs.Answered.{placed}
-use Rattle.values.proofs.in_subframes.Statement.{statement}
-use Rattle.values.proofs.in_subframes.Tie as tie
+use Rattle.decoder.proofs.in_subframes.Statement.{statement}
+use Rattle.decoder.proofs.in_subframes.Tie as tie
 
 returns : tie.Need-returns
 returns c = placed (c .before .args .r) (c .before .args .place) (c .before .pre)

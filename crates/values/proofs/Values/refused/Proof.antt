@@ -1,0 +1,14 @@
+-- `values::Values::refused` meets its contract.
+-- Assumes nothing.
+use mathlib.Core.Path.{refl}
+use Rattle.laws.specs.Tabulate.{tabulateFrom}
+use Rattle.values.specs.Values.{refusedValues}
+use Rattle.values.proofs.Values.refused.Statement.{statement}
+use Rattle.values.proofs.Values.refused.Tie as tie
+
+returns : tie.Need-returns
+unfolding refusedValues tabulateFrom
+returns c = refl
+
+pub refused-spec : {M : Type 1} → statement M
+refused-spec = tie.close (tie.spec returns)
