@@ -15,6 +15,6 @@ abbrev μ-loop : tie.MeasureT-loop
 pub gains-spec : {M : Type 1} → statement M
 gains-spec =
     tie.close
-    (tie.spec Inv-loop μ-loop (search needs) (λ c κs. tt) (λ c. tt) (search needs) (search needs) (λ c κs. tt)
-    (search needs)
-    (search needs) (λ c κs. tt) (λ c. omega arith) (λ c. omega arith) (λ c. tt) (λ c. tt))
+    (tie.spec Inv-loop μ-loop (search needs) (λ c κs. tt) (λ c. tt) (λ c. omega arith) (λ c. omega arith) (λ c κs. tt)
+    (λ c. omega arith)
+    (λ c. omega arith) (λ c κs. tt) (λ c. omega arith) (λ c. omega arith) (λ c. tt) (λ c. tt))
