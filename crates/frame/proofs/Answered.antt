@@ -29,7 +29,7 @@ use Rattle.frame.proofs.Laws.{packed-cong-bits}
 use Rattle.frame.proofs.Gathered.{bitAt-small}
 use Rattle.frame.proofs.Number.{guardedBits}
 use Rattle.frame.proofs.Mended.{guardedField, guardedBit, guarded-field-small, field-of-guarded, bit-of-guarded}
-use Rattle.frame.proofs.Mended.{guarded-entry, number-of-fields, number-small, record-read}
+use Rattle.frame.proofs.Mended.{guarded-entry, number-of-fields, record-read}
 
 -- eighteen bytes are read
 pub read-eighteen : (s : List ℕ) → length s ≡ 18 → readingOf s ≡ readIn (bitAt s)
@@ -53,10 +53,6 @@ module _ (s v : List ℕ) (n : ℕ) (gathered : v ≡ tabulate (indexIn (bitAt s
   pub number-is : n ≡ number (bitAt s)
   number-is =
       numbered ∙ ap (λ (l : List ℕ). numberOf (guardedBits l)) gathered ∙ number-of-fields (bitAt s) (bitAt-small s)
-
-  -- it is below 16
-  pub number-fits : n < 16
-  number-fits = rw number-is (number-small (bitAt s) (bitAt-small s))
 
   -- what the steps answer, one after the other, is the reading
   pub read-whole : (w : List ℕ) (m : ℕ) (r : Record) → length s ≡ 18 → w ≡ mendedFields v n → r ≡ recordBy w

@@ -1,12 +1,12 @@
--- `frame::write` meets its contract: the refusals in their order, then the frame.
+-- `writer::write` meets its contract: the refusals in their order, then the frame.
 -- Assumes nothing.
 use mathlib.Core.Path.{_≡_, _∙_, sym}
 use borrow.Author.Needs.{needs}
 use Rattle.record.specs.Fields.{tooLarge}
 use Rattle.frame.specs.Answers.{recordMark}
 use Rattle.frame.proofs.Answered.{wrong-length, too-large, falling, expansion, accepted, answered, laid}
-use Rattle.frame.proofs.write.Statement.{statement}
-use Rattle.frame.proofs.write.Tie as tie
+use Rattle.writer.proofs.write.Statement.{statement}
+use Rattle.writer.proofs.write.Tie as tie
 
 -- past a test: the indices fit, the parameters are in order
 fits : (c : tie.Else2) → tooLarge (c .before .before .before .before .args .r) ≡ 0

@@ -1,12 +1,12 @@
--- `frame::to_record` meets its contract. The loops' invariants: the places passed hold the indices of their fields.
+-- `reader::to_record` meets its contract. The loops' invariants: the places passed hold the indices of their fields.
 -- Assumes nothing.
 use mathlib.Core.Path.{refl}
 use Prim.Native.Nat.{_-_}
 use native.Mathlib.Omega.{arith}
 use Rattle.laws.proofs.Filled.{filled-none, filled-more}
 use Rattle.frame.proofs.Listed.{TakenLsp, TakenSubframes, taken-whole}
-use Rattle.frame.proofs.to_record.Statement.{statement}
-use Rattle.frame.proofs.to_record.Tie as tie
+use Rattle.reader.proofs.to_record.Statement.{statement}
+use Rattle.reader.proofs.to_record.Tie as tie
 
 abbrev Inv-loop : tie.InvT-loop
 Inv-loop fields lsp₀ k₀ lsp k = TakenLsp fields k lsp

@@ -1,10 +1,10 @@
--- `frame::to_fields` meets its contract. The loops' invariants: the fields passed hold their indices.
+-- `writer::to_fields` meets its contract. The loops' invariants: the fields passed hold their indices.
 -- Assumes nothing.
 use Prim.Native.Nat.{_+_, _-_}
 use native.Mathlib.Omega.{arith}
 use Rattle.frame.proofs.Listed.{Laid, laid-none, laid-lsp, laid-parameters, laid-subframe, laid-whole}
-use Rattle.frame.proofs.to_fields.Statement.{statement}
-use Rattle.frame.proofs.to_fields.Tie as tie
+use Rattle.writer.proofs.to_fields.Statement.{statement}
+use Rattle.writer.proofs.to_fields.Tie as tie
 
 abbrev Inv-loop : tie.InvT-loop
 Inv-loop r fields₀ lsp k₀ fields k = Laid r (k + 1) fields

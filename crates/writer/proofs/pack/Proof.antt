@@ -1,14 +1,14 @@
--- `frame::pack` meets its contract. The loop's invariant: the bytes passed hold their eight bits.
+-- `writer::pack` meets its contract. The loop's invariant: the bytes passed hold their eight bits.
 -- Assumes nothing.
 use Prim.Native.Nat.{_-_}
 use native.Mathlib.Omega.{arith}
 use borrow.Author.Needs.{needs}
 use lib.ListN.{getD}
 use Rattle.laws.proofs.Filled.{Filled, filled-none, filled-more, filled-done}
 use Rattle.frame.specs.Frame.{sent, packed}
 use Rattle.frame.proofs.Laws.{packedByte}
-use Rattle.frame.proofs.pack.Statement.{statement}
-use Rattle.frame.proofs.pack.Tie as tie
+use Rattle.writer.proofs.pack.Statement.{statement}
+use Rattle.writer.proofs.pack.Tie as tie
 
 abbrev Inv-loop : tie.InvT-loop
 Inv-loop frame₀ fields table k₀ frame k = Filled 0 (packedByte (sent (λ f. getD fields f 0))) 18 k frame

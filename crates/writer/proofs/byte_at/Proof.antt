@@ -1,15 +1,15 @@
--- `frame::byte_at` meets its contract. The loop's invariant: the bits passed are shifted in, the last of them lowest.
+-- `writer::byte_at` meets its contract. The loop's invariant: the bits passed are shifted in, the last of them lowest.
 -- Assumes nothing.
 use mathlib.Core.Path.{_∙_, ap}
 use Prim.Native.Nat.{_+_, _-_, _*_, _/_, _<_}
 use native.Mathlib.Omega.{arith}
 use lib.ListN.{length, getD}
 use Rattle.frame.specs.Frame.{sent}
 use Rattle.frame.proofs.Places.{length-entries}
 use Rattle.frame.proofs.Packed.{Shifted, shifted-none, shifted-more, shifted-byte, shifted-room, byte-shifted}
 use Rattle.frame.proofs.Packed.{sent-next, sent-field, sent-small}
-use Rattle.frame.proofs.byte_at.Statement.{statement}
-use Rattle.frame.proofs.byte_at.Tie as tie
+use Rattle.writer.proofs.byte_at.Statement.{statement}
+use Rattle.writer.proofs.byte_at.Tie as tie
 
 abbrev Inv-loop : tie.InvT-loop
 Inv-loop fields table k from x₀ q₀ x q =

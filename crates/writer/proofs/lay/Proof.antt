@@ -1,11 +1,11 @@
--- `frame::lay` meets its contract: the indices by field, their parity, the bytes.
+-- `writer::lay` meets its contract: the indices by field, their parity, the bytes.
 -- Assumes nothing.
 use mathlib.Core.Path.{_∙_}
 use native.Mathlib.Omega.{arith}
 use borrow.Author.Needs.{needs}
 use Rattle.frame.proofs.Answered.{parity-fits, frame-is}
-use Rattle.frame.proofs.lay.Statement.{statement}
-use Rattle.frame.proofs.lay.Tie as tie
+use Rattle.writer.proofs.lay.Statement.{statement}
+use Rattle.writer.proofs.lay.Tie as tie
 
 cast-fields : tie.Need-cast-fields
 cast-fields c = omega (arith, parity-fits _ _ _ (c .before .to-fields .ensures) (c .number-of .ensures))

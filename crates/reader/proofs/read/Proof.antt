@@ -1,17 +1,13 @@
--- `frame::read` meets its contract: each step's answer handed to the next.
+-- `reader::read` meets its contract: each step's answer handed to the next.
 -- Assumes nothing.
-use native.Mathlib.Omega.{arith}
 use Rattle.laws.specs.Tabulate.{tabulateFrom}
-use Rattle.frame.proofs.Answered.{read-refused, read-whole, number-fits}
-use Rattle.frame.proofs.read.Statement.{statement}
-use Rattle.frame.proofs.read.Tie as tie
+use Rattle.frame.proofs.Answered.{read-refused, read-whole}
+use Rattle.reader.proofs.read.Statement.{statement}
+use Rattle.reader.proofs.read.Tie as tie
 
 returns : tie.Need-returns
 unfolding tabulateFrom
 returns c = read-refused _ (c .if1 .taken)
-
-mend-requires : tie.Need-mend-requires
-mend-requires c κs = omega (arith, number-fits _ _ _ (c .before .gather .ensures) (c .number-of .ensures))
 
 returns-2 : tie.Need-returns-2
 returns-2 c =
@@ -24,4 +20,4 @@ returns-2 c =
 pub read-spec : {M : Type 1} → statement M
 read-spec =
     tie.close
-    (tie.spec returns (λ c κs. c .if1 .left) (λ c κs. tt) mend-requires (λ c κs. tt) (λ c κs. tt) returns-2)
+    (tie.spec returns (λ c κs. c .if1 .left) (λ c κs. tt) (λ c κs. tt) (λ c κs. tt) (λ c κs. tt) returns-2)

@@ -1,15 +1,15 @@
--- `frame::add_byte` meets its contract. The loop's invariant: each field holds what the places passed give it.
+-- `reader::add_byte` meets its contract. The loop's invariant: each field holds what the places passed give it.
 -- Assumes nothing.
 use mathlib.Core.Path.{_∙_, sym, ap}
 use Prim.Native.Nat.{_+_, _-_, _*_, _/_, _≤_, _<_}
 use native.Mathlib.Omega.{arith}
 use lib.ListN.{length, getD}
 use Rattle.frame.specs.Frame.{bitAt}
 use Rattle.frame.proofs.Places.{length-entries}
 use Rattle.frame.proofs.Gathered.{Gathered, bitAt-small, gathered-from, gathered-is, indices-long, turn}
 use Rattle.frame.proofs.Gathered.{turn-field, turn-room, byte-begun, byte-done}
-use Rattle.frame.proofs.add_byte.Statement.{statement}
-use Rattle.frame.proofs.add_byte.Tie as tie
+use Rattle.reader.proofs.add_byte.Statement.{statement}
+use Rattle.reader.proofs.add_byte.Tie as tie
 
 abbrev Inv-loop : tie.InvT-loop
 Inv-loop frame n table fields₀ byte from q₀ fields q =

@@ -1,15 +1,15 @@
--- `frame::gather` meets its contract. The loop's invariant: the list holds what the bytes passed give each field.
+-- `reader::gather` meets its contract. The loop's invariant: the list holds what the bytes passed give each field.
 -- Assumes nothing.
 use mathlib.Core.Path.{_≡_, _∙_, sym, ap}
 use Prim.Native.Nat.{_-_, _*_, _≤_}
 use native.Mathlib.Omega.{arith}
 use borrow.Author.Needs.{needs}
 use lib.ListN.{length}
 use Rattle.frame.specs.Frame.{bitAt}
 use Rattle.frame.specs.Steps.{indicesUpTo}
 use Rattle.frame.proofs.Gathered.{bitAt-small, indices-long, indices-none, indices-all}
-use Rattle.frame.proofs.gather.Statement.{statement}
-use Rattle.frame.proofs.gather.Tie as tie
+use Rattle.reader.proofs.gather.Statement.{statement}
+use Rattle.reader.proofs.gather.Tie as tie
 
 abbrev Inv-loop : tie.InvT-loop
 Inv-loop frame table fields₀ n₀ fields n = (fields ≡ indicesUpTo (bitAt frame) (8 * n)) × (n ≤ 18)
