@@ -6,7 +6,7 @@ use Prim.Native.Nat.{ℕ, _*_, _%_, _<_, _≤_}
 use native.Mathlib.Omega.{arith}
 use native.Mathlib.Decide.{ℕ-discrete}
 use borrow.Author.Tests.{eq-eqb, ne-eqb}
-use lib.ListN.{length, getD, set}
+use lib.ListN.{length, getD, set, length-set}
 use lib.Seq.{getD-set-same, getD-set-other}
 use Rattle.laws.specs.Total.{bit}
 use Rattle.laws.specs.Tabulate.{tabulate}
@@ -203,7 +203,11 @@ module _ (r : Record) (v : List ℕ) (h : ℕ) (listed : v ≡ fieldsOf r) (numb
   pub parity-fits : h < 16
   parity-fits = rw numbered (fromBits-lt (check (guardedBits v)) 4 (λ i l. omega arith))
 
-  -- and with it under 0 the list is sent as the frame of the record
+  -- with it under 0 the list is as long
+  pub parity-long : length (set v 0 h) ≡ 29
+  parity-long = length-set v 0 h ∙ ap length listed ∙ fields-long r
+
+  -- and is sent as the frame of the record
   pub frame-is : packed (sent (λ f. getD (set v 0 h) f 0)) ≡ frameOf r
   unfolding frameOf
   frame-is =

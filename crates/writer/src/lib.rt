@@ -6,7 +6,7 @@ ghost use mathlib.Core.Path.{_≡_};
 ghost use Prim.Native.Nat.{_<_};
 ghost use lib.ListN.{length, getD};
 ghost use Rattle.laws.specs.Total.{fromBits};
-ghost use Rattle.frame.specs.Frame.{placeAt, packed, sent, frameOf};
+ghost use Rattle.frame.specs.Frame.{placeAt, sent, frameOf};
 ghost use Rattle.frame.specs.Answers.{writtenOf, frameLeft};
 ghost use Rattle.frame.specs.Steps.{entries, fieldsOf};
 
@@ -40,7 +40,12 @@ fn lay(r: Record, frame: &mut [u8])
 {
     let mut fields = to_fields(r);
     fields[0] = frame::number_of(fields) as u16;
-    pack(fields, frame);
+    let table = frame::table();
+    let mut k = 0;
+    while k < 18 {
+        frame[k] = byte_at(&fields, &table, k);
+        k += 1;
+    }
 }
 
 // A record's indices by field, the parity bits 0.
@@ -82,17 +87,4 @@ fn byte_at(fields: &[u16], table: &[u16], k: usize) -> u8
         q += 1;
     }
     x as u8
-}
-
-// The frame that the indices are sent in.
-fn pack(fields: [u16; 29], frame: &mut [u8])
-    requires { ⌜ length (now frame) ≡ 18 ⌝ }
-    ensures { λ r. ⌜ now (frame .exit) ≡ packed (sent (λ f. getD fields f 0)) ⌝ }
-{
-    let table = frame::table();
-    let mut k = 0;
-    while k < 18 {
-        frame[k] = byte_at(&fields, &table, k);
-        k += 1;
-    }
 }

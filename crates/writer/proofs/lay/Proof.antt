@@ -1,21 +1,56 @@
--- `writer::lay` meets its contract: the indices by field, their parity, the bytes.
+-- `writer::lay` meets its contract: the indices by field, their parity, and a loop over the bytes. Its invariant: the
+-- bytes passed hold their eight bits.
 -- Assumes nothing.
-use mathlib.Core.Path.{_∙_}
+use mathlib.Core.Path.{_∙_, sym}
+use Prim.Native.Nat.{_-_}
 use native.Mathlib.Omega.{arith}
 use borrow.Author.Needs.{needs}
-use Rattle.frame.proofs.Answered.{parity-fits, frame-is}
+use lib.ListN.{getD}
+use Rattle.laws.proofs.Filled.{Filled, filled-none, filled-more, filled-done}
+use Rattle.frame.specs.Frame.{sent, packed}
+use Rattle.frame.proofs.Answered.{parity-fits, parity-long, frame-is}
+use Rattle.frame.proofs.Laws.{packedByte}
 use Rattle.writer.proofs.lay.Statement.{statement}
 use Rattle.writer.proofs.lay.Tie as tie
 
-cast-fields : tie.Need-cast-fields
+abbrev Inv-loop : tie.InvT-loop
+Inv-loop frame₀ fields table k₀ frame k = Filled 0 (packedByte (sent (λ f. getD fields f 0))) 18 k frame
+
+abbrev μ-loop : tie.MeasureT-loop
+μ-loop frame₀ fields table k₀ frame k = 18 - k
+
+cast-fields : tie.Need-cast-fields Inv-loop μ-loop
 cast-fields c = omega (arith, parity-fits _ _ _ (c .before .to-fields .ensures) (c .number-of .ensures))
 
-returns : tie.Need-returns
+loop-holds : tie.Need-loop-holds Inv-loop μ-loop
+loop-holds c = filled-none 0 _ 18 _ (c .before .before .before .before .pre)
+
+slice-aggregate-byte-at : tie.Need-slice-aggregate-byte-at Inv-loop μ-loop
+slice-aggregate-byte-at c =
+    let at-number = c .before .before .before .before in
+    sym (parity-long _ _ _ (at-number .before .to-fields .ensures) (at-number .number-of .ensures))
+
+byte-at-requires : tie.Need-byte-at-requires Inv-loop μ-loop
+byte-at-requires c κs = (search needs, (search needs, c .before .before .loop-test .taken))
+
+slice-write-frame : tie.Need-slice-write-frame Inv-loop μ-loop
+slice-write-frame c = omega (arith, c .before .before .before .before .loop .inv .long)
+
+loop-again : tie.Need-loop-again Inv-loop μ-loop
+loop-again c =
+    filled-more 0 _ 18 _ _ _ (c .before .before .before .before .loop .inv)
+    (c .before .before .before .loop-test .taken) (c .byte-at .ensures)
+
+returns : tie.Need-returns Inv-loop μ-loop
+unfolding packed
 returns c =
-    let at-pack = c .before .before in
-    let at-number = at-pack .before .before in
-    at-pack .pack .ensures ∙ frame-is _ _ _ (at-number .before .to-fields .ensures) (at-number .number-of .ensures)
+    let at-number = c .before .before .before in
+    filled-done 0 _ 18 _ (c .loop-test .left) (c .before .loop .inv)
+    ∙ frame-is _ _ _ (at-number .before .to-fields .ensures) (at-number .number-of .ensures)
 
 pub lay-spec : {M : Type 1} → statement M
 lay-spec =
-    tie.close (tie.spec (λ c κs. tt) (λ c κs. tt) cast-fields (search needs) (search needs) (search needs) returns)
+    tie.close
+    (tie.spec Inv-loop μ-loop (λ c κs. tt) (λ c κs. tt) cast-fields (search needs) (λ c κs. tt) loop-holds
+    slice-aggregate-byte-at (search needs) byte-at-requires slice-write-frame (λ c. omega arith)
+    (λ c. omega arith) loop-again (search needs) returns)
