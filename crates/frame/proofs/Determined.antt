@@ -10,10 +10,6 @@ use Rattle.frame.proofs.mark_of.Kinds as mark
 use Rattle.frame.proofs.mark_of.Reads as mark-reads
 use Rattle.frame.proofs.table.Kinds as table
 use Rattle.frame.proofs.table.Reads as table-reads
-use Rattle.frame.proofs.number_of.Kinds as sum
-use Rattle.frame.proofs.number_of.Reads as sum-reads
-use Rattle.frame.proofs.mend.Kinds as mend
-use Rattle.frame.proofs.mend.Reads as mend-reads
 
 pub correction-number-determined : (κs : Lfts 0) (a : Dens κs number.ps) (n₁ n₂ : resT number.r κs .Denot)
     (x₁ x₂ : AtExit (endedOf 0 number.ps number.r) κs)
@@ -29,13 +25,3 @@ pub table-determined : (κs : Lfts 0) (a : Dens κs table.ps) (r₁ r₂ : resT 
     (x₁ x₂ : AtExit (endedOf 0 table.ps table.r) κs)
     → table-reads.Post κs a r₁ x₁ → table-reads.Post κs a r₂ x₂ → r₁ ≡ r₂
 table-determined κs a r₁ r₂ x₁ x₂ p q = p ∙ sym q
-
-pub number-of-determined : (κs : Lfts 0) (a : Dens κs sum.ps) (r₁ r₂ : resT sum.r κs .Denot)
-    (x₁ x₂ : AtExit (endedOf 0 sum.ps sum.r) κs)
-    → sum-reads.Post κs a r₁ x₁ → sum-reads.Post κs a r₂ x₂ → r₁ ≡ r₂
-number-of-determined κs a r₁ r₂ x₁ x₂ p q = p ∙ sym q
-
-pub mend-determined : (κs : Lfts 0) (a : Dens κs mend.ps) (r₁ r₂ : resT mend.r κs .Denot)
-    (x₁ x₂ : AtExit (endedOf 0 mend.ps mend.r) κs)
-    → mend-reads.Post κs a r₁ x₁ → mend-reads.Post κs a r₂ x₂ → r₁ ≡ r₂
-mend-determined κs a r₁ r₂ x₁ x₂ p q = p ∙ sym q

@@ -30,8 +30,8 @@ pub fn read(frame: &[u8]) -> Reading
         };
     }
     let received = gather(frame);
-    let number = frame::number_of(received);
-    let indices = to_record(frame::mend(received, number));
+    let number = parity::number_of(received);
+    let indices = to_record(parity::mend(received, number));
     let mark = frame::mark_of(indices);
     Reading {
         verdict: Verdict::Read,

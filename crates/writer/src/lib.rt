@@ -39,7 +39,7 @@ fn lay(r: Record, frame: &mut [u8])
     ensures { λ _. ⌜ now (frame .exit) ≡ frameOf r ⌝ }
 {
     let mut fields = to_fields(r);
-    fields[0] = frame::number_of(fields) as u16;
+    fields[0] = parity::number_of(fields) as u16;
     let table = frame::table();
     let mut k = 0;
     while k < 18 {

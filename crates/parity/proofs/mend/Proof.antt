@@ -1,11 +1,11 @@
--- `frame::mend` meets its contract: the bit of the number is inverted; 0 and a number over 15 invert none.
+-- `parity::mend` meets its contract: the bit of the number is inverted; 0 and a number over 15 invert none.
 -- Assumes nothing.
 use Prim.Native.Nat.{_-_, _/_, _<_}
 use native.Mathlib.Omega.{arith}
 use lib.ListN.{getD}
 use Rattle.frame.proofs.Number.{mended-none, mended-beyond, mended-one, mended-field}
-use Rattle.frame.proofs.mend.Statement.{statement}
-use Rattle.frame.proofs.mend.Tie as tie
+use Rattle.parity.proofs.mend.Statement.{statement}
+use Rattle.parity.proofs.mend.Tie as tie
 
 returns : tie.Need-returns
 returns c = mended-none _ _ (c .if1 .taken)

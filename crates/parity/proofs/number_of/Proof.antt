@@ -1,12 +1,12 @@
--- `frame::number_of` meets its contract. The loop's invariant: the exclusive or of the numbers of the guarded bits
+-- `parity::number_of` meets its contract. The loop's invariant: the exclusive or of the numbers of the guarded bits
 -- passed that are 1.
 -- Assumes nothing.
 use Prim.Native.Nat.{_-_}
 use native.Mathlib.Omega.{arith}
 use Rattle.frame.proofs.Number.{Summed, summed-none, summed-more, summed-all, taken-room, next-guarded}
 use Rattle.frame.proofs.Number.{next-field}
-use Rattle.frame.proofs.number_of.Statement.{statement}
-use Rattle.frame.proofs.number_of.Tie as tie
+use Rattle.parity.proofs.number_of.Statement.{statement}
+use Rattle.parity.proofs.number_of.Tie as tie
 
 abbrev Inv-loop : tie.InvT-loop
 Inv-loop fields guarded number₀ n₀ number n = Summed fields n number
