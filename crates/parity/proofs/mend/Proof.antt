@@ -11,16 +11,16 @@ returns : tie.Need-returns
 returns c = mended-none _ _ (c .if1 .taken)
 
 returns-2 : tie.Need-returns-2
-returns-2 c = mended-beyond _ (c .before .if1 .left) _ (c .if2 .taken)
+returns-2 c = mended-beyond _ (c .before .if1 .left) _ (omega arith)
 
 -- the entry of the number names one of the 29
 named : (c : tie.After-guarded) → getD (c .guarded .result) (c .before .before .before .args .number - 1) 0 / 16 < 29
 named c =
     mended-field (c .before .before .before .args .number) (c .before .before .if1 .left) _ (c .guarded .ensures)
-    (c .before .if2 .left)
+    (omega arith)
 
 returns-3 : tie.Need-returns-3
-returns-3 c = mended-one _ (c .before .before .if1 .left) _ (c .guarded .ensures) (c .before .if2 .left) _
+returns-3 c = mended-one _ (c .before .before .if1 .left) _ (c .guarded .ensures) (omega arith) _
 
 pub mend-spec : {M : Type 1} → statement M
 mend-spec =

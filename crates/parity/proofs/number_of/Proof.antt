@@ -18,24 +18,24 @@ loop-holds : tie.Need-loop-holds Inv-loop μ-loop
 loop-holds c = summed-none _
 
 cast-f : tie.Need-cast-f Inv-loop μ-loop
-cast-f c = omega (arith, next-field _ (c .before .before .guarded .ensures) _ (c .loop-test .taken))
+cast-f c = omega (arith, next-field _ (c .before .before .guarded .ensures) (c .before .loop .n) (omega arith))
 
 mul-x : tie.Need-mul-x Inv-loop μ-loop
-mul-x c = omega (arith, next-field _ (c .before .before .guarded .ensures) _ (c .loop-test .taken))
+mul-x c = omega (arith, next-field _ (c .before .before .guarded .ensures) (c .before .loop .n) (omega arith))
 
 array-read-x : tie.Need-array-read-x Inv-loop μ-loop
-array-read-x c = next-field _ (c .before .before .guarded .ensures) _ (c .loop-test .taken)
+array-read-x c = next-field _ (c .before .before .guarded .ensures) (c .before .loop .n) (omega arith)
 
 mul-number : tie.Need-mul-number Inv-loop μ-loop
-mul-number c = record { fits = taken-room _ _ (c .loop-test .taken) }
+mul-number c = record { fits = taken-room _ _ (omega arith) }
 
 loop-again : tie.Need-loop-again Inv-loop μ-loop
 loop-again c =
-    summed-more _ (c .before .loop .inv) (c .loop-test .taken) _ (omega arith)
+    summed-more _ (c .before .loop .inv) (omega arith) _ (omega arith)
     (next-guarded _ (c .before .before .guarded .ensures) (c .before .loop .n) (c .before .before .before .args .t1))
 
 returns : tie.Need-returns Inv-loop μ-loop
-returns c = summed-all _ (c .before .loop .inv) (c .loop-test .left)
+returns c = summed-all _ (c .before .loop .inv) (omega arith)
 
 pub number-of-spec : {M : Type 1} → statement M
 number-of-spec =

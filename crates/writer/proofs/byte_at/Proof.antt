@@ -6,8 +6,8 @@ use native.Mathlib.Omega.{arith}
 use lib.ListN.{length, getD}
 use Rattle.frame.specs.Frame.{sent}
 use Rattle.frame.proofs.Places.{length-entries}
-use Rattle.frame.proofs.Packed.{Shifted, shifted-none, shifted-more, shifted-byte, shifted-room, byte-shifted}
-use Rattle.frame.proofs.Packed.{sent-next, sent-field, sent-small}
+use Rattle.frame.proofs.Packed.{Shifted, shifted-none, shifted-turn, shifted-byte, shifted-room, byte-shifted}
+use Rattle.frame.proofs.Packed.{sent-field, sent-small}
 use Rattle.writer.proofs.byte_at.Statement.{statement}
 use Rattle.writer.proofs.byte_at.Tie as tie
 
@@ -54,9 +54,9 @@ add-x c = omega (arith, shifted-room _ _ _ (c .before .before .before .loop .inv
 
 loop-again : tie.Need-loop-again Inv-loop μ-loop
 loop-again c =
-    rw (sent-next (c .before .before .before .before .args .fields .now) _
-    (c .before .before .before .before .pre .1 .0) _ (within (c .before)))
-    (shifted-more _ _ _ (c .before .before .before .loop .inv) (c .before .before .loop-test .taken))
+    let start = c .before .before .before .before in
+    shifted-turn (start .args .fields .now) _ (start .pre .1 .0) (within (c .before))
+    (c .before .before .before .loop .inv) (c .before .before .loop-test .taken)
 
 cast-result : tie.Need-cast-result Inv-loop μ-loop
 cast-result c = omega (arith, shifted-byte _ _ _ (c .before .loop .inv))
