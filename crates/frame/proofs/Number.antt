@@ -1,5 +1,5 @@
--- The loop of `number_of`: the exclusive or of the numbers of the guarded bits passed that are 1. And the entries of
--- the guarded bits.
+-- The loop of `parity::number_of`: the exclusive or of the numbers of the guarded bits passed that are 1. And the
+-- entries of the guarded bits.
 -- Assumes nothing.
 use mathlib.Core.Path.{_≡_, _∙_, sym, refl, ap, subst}
 use mathlib.Core.List.{List}
@@ -131,7 +131,12 @@ module _ (n : ℕ) (e : n ≡ 0 → ⊥) where
         (bitXor (getD v (getD t (n - 1) 0 / 16) 0) (1 * 2 ^ (getD t (n - 1) 0 % 16) % 65536)) ≡ mendedFields v n
     unfolding mendedFields
     mended-one v =
-        rw (same, ne-eqb n 0 e, lt-ltb n 16 (omega arith), shifted-one (getD guardedEntries (n - 1) 0 % 16) (omega arith))
+        rw (
+          same,
+          ne-eqb n 0 e,
+          lt-ltb n 16 (omega arith),
+          shifted-one (getD guardedEntries (n - 1) 0 % 16) (omega arith),
+        )
 
     -- and is in one of the 29
     pub mended-field : getD t (n - 1) 0 / 16 < 29
