@@ -3,10 +3,10 @@
 use mathlib.Core.Path.{_≡_, _∙_, sym, ap}
 use Prim.Native.Nat.{_-_, _*_, _≤_}
 use native.Mathlib.Omega.{arith}
-use borrow.Author.Needs.{needs}
 use lib.ListN.{length}
 use Rattle.frame.specs.Frame.{bitAt}
 use Rattle.frame.specs.Steps.{indicesUpTo}
+use Rattle.frame.proofs.Places.{length-entries}
 use Rattle.frame.proofs.Gathered.{bitAt-small, indices-long, indices-none, indices-all}
 use Rattle.reader.proofs.gather.Statement.{statement}
 use Rattle.reader.proofs.gather.Tie as tie
@@ -19,6 +19,9 @@ abbrev μ-loop : tie.MeasureT-loop
 
 loop-holds : tie.Need-loop-holds Inv-loop μ-loop
 loop-holds c = (indices-none (bitAt _) (bitAt-small _), omega arith)
+
+slice-aggregate-add-byte : tie.Need-slice-aggregate-add-byte Inv-loop μ-loop
+slice-aggregate-add-byte c = sym (ap length (c .before .before .before .table .ensures) ∙ length-entries)
 
 slice-aggregate-add-byte-2 : tie.Need-slice-aggregate-add-byte-2 Inv-loop μ-loop
 slice-aggregate-add-byte-2 c = sym (ap length (c .before .before .before .loop .inv .0) ∙ indices-long _ _)
@@ -40,6 +43,6 @@ returns c = indices-all _ _ (c .loop-test .left) (c .before .loop .inv .1) (c .b
 pub gather-spec : {M : Type 1} → statement M
 gather-spec =
     tie.close
-    (tie.spec Inv-loop μ-loop (λ c κs. tt) loop-holds (search needs) slice-aggregate-add-byte-2 add-byte-requires
+    (tie.spec Inv-loop μ-loop (λ c κs. tt) loop-holds slice-aggregate-add-byte slice-aggregate-add-byte-2 add-byte-requires
     (λ c. omega arith) (λ c. omega arith)
     loop-again returns)

@@ -1,15 +1,15 @@
 -- `writer::lay` meets its contract: the indices by field, their parity, and a loop over the bytes. Its invariant: the
 -- bytes passed hold their eight bits.
 -- Assumes nothing.
-use mathlib.Core.Path.{_∙_, sym}
+use mathlib.Core.Path.{_∙_, sym, ap}
 use Prim.Native.Nat.{_-_}
 use native.Mathlib.Omega.{arith}
-use borrow.Author.Needs.{needs}
-use lib.ListN.{getD}
+use lib.ListN.{length, getD}
 use Rattle.laws.proofs.Filled.{Filled, filled-none, filled-more, filled-done}
 use Rattle.frame.specs.Frame.{sent, packed}
 use Rattle.frame.proofs.Answered.{parity-fits, parity-long, frame-is}
 use Rattle.frame.proofs.Laws.{packedByte}
+use Rattle.frame.proofs.Places.{length-entries}
 use Rattle.writer.proofs.lay.Statement.{statement}
 use Rattle.writer.proofs.lay.Tie as tie
 
@@ -30,8 +30,17 @@ slice-aggregate-byte-at c =
     let at-number = c .before .before .before .before in
     sym (parity-long _ _ _ (at-number .before .to-fields .ensures) (at-number .number-of .ensures))
 
+slice-aggregate-byte-at-2 : tie.Need-slice-aggregate-byte-at-2 Inv-loop μ-loop
+slice-aggregate-byte-at-2 c =
+    sym (ap length (c .before .before .before .before .table .ensures) ∙ length-entries)
+
 byte-at-requires : tie.Need-byte-at-requires Inv-loop μ-loop
-byte-at-requires c κs = (search needs, (search needs, c .before .before .loop-test .taken))
+byte-at-requires c κs =
+    let at-table = c .before .before .before .before in
+    let at-number = at-table .before in (
+      parity-long _ _ _ (at-number .before .to-fields .ensures) (at-number .number-of .ensures),
+      (at-table .table .ensures, omega arith),
+    )
 
 slice-write-frame : tie.Need-slice-write-frame Inv-loop μ-loop
 slice-write-frame c = omega (arith, c .before .before .before .before .loop .inv .long)
@@ -40,6 +49,9 @@ loop-again : tie.Need-loop-again Inv-loop μ-loop
 loop-again c =
     filled-more 0 _ 18 _ _ _ (c .before .before .before .before .loop .inv)
     (c .before .before .before .loop-test .taken) (c .byte-at .ensures)
+
+same-length : tie.Need-same-length Inv-loop μ-loop
+same-length c = c .before .loop .inv .long ∙ sym (c .before .before .before .before .before .before .pre)
 
 returns : tie.Need-returns Inv-loop μ-loop
 unfolding packed
@@ -51,6 +63,6 @@ returns c =
 pub lay-spec : {M : Type 1} → statement M
 lay-spec =
     tie.close
-    (tie.spec Inv-loop μ-loop (λ c κs. tt) (λ c κs. tt) cast-fields (search needs) (λ c κs. tt) loop-holds
-    slice-aggregate-byte-at (search needs) byte-at-requires slice-write-frame (λ c. omega arith)
-    (λ c. omega arith) loop-again (search needs) returns)
+    (tie.spec Inv-loop μ-loop (λ c κs. tt) (λ c κs. tt) cast-fields (λ c. omega arith) (λ c κs. tt) loop-holds
+    slice-aggregate-byte-at slice-aggregate-byte-at-2 byte-at-requires slice-write-frame (λ c. omega arith)
+    (λ c. omega arith) loop-again same-length returns)
