@@ -42,7 +42,7 @@ RATTLE = [
     ("crates/lsp/src/lib.rt", "HZ", "lsp.by-index"),
     ("crates/codebook/src/lib.rt", "BOOK", "elements"),
     ("crates/frame/src/lib.rt", "TABLE", "places.entries"),
-    ("crates/frame/src/lib.rt", "GUARDED", "guarded.entries"),
+    ("crates/parity/src/lib.rt", "GUARDED", "guarded.entries"),
 ]
 ANTT = [
     ("crates/record/specs/Fields.antt", "widths", "widths"),

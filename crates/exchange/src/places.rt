@@ -88,7 +88,7 @@ fn passed(pass: Pass) {
 // The values of a frame's record with one index or more set to the number, by the length of what is given, after the
 // state that the record itself leaves.
 pub fn values(s: &[u8], n: usize) {
-    let reading = frame::read(s);
+    let reading = reader::read(s);
     let indices = reading.indices;
     let first = decoder::values_of(indices, State::fresh());
     let second = decoder::values_of(altered(indices, n), first.state);

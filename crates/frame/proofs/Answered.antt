@@ -1,4 +1,4 @@
--- The returns of `read` and `write`: what was computed step by step is what the definitions say.
+-- The returns of `reader::read` and `writer::write`: what was computed step by step is what the definitions say.
 -- Assumes nothing.
 use mathlib.Core.Path.{_≡_, _∙_, sym, refl, ap}
 use mathlib.Core.List.{List}
@@ -6,7 +6,7 @@ use Prim.Native.Nat.{ℕ, _*_, _%_, _<_, _≤_}
 use native.Mathlib.Omega.{arith}
 use native.Mathlib.Decide.{ℕ-discrete}
 use borrow.Author.Tests.{eq-eqb, ne-eqb}
-use lib.ListN.{length, getD, set}
+use lib.ListN.{length, getD, set, length-set}
 use lib.Seq.{getD-set-same, getD-set-other}
 use Rattle.laws.specs.Total.{bit}
 use Rattle.laws.specs.Tabulate.{tabulate}
@@ -29,7 +29,7 @@ use Rattle.frame.proofs.Laws.{packed-cong-bits}
 use Rattle.frame.proofs.Gathered.{bitAt-small}
 use Rattle.frame.proofs.Number.{guardedBits}
 use Rattle.frame.proofs.Mended.{guardedField, guardedBit, guarded-field-small, field-of-guarded, bit-of-guarded}
-use Rattle.frame.proofs.Mended.{guarded-entry, number-of-fields, number-small, record-read}
+use Rattle.frame.proofs.Mended.{guarded-entry, number-of-fields, record-read}
 
 -- eighteen bytes are read
 pub read-eighteen : (s : List ℕ) → length s ≡ 18 → readingOf s ≡ readIn (bitAt s)
@@ -53,10 +53,6 @@ module _ (s v : List ℕ) (n : ℕ) (gathered : v ≡ tabulate (indexIn (bitAt s
   pub number-is : n ≡ number (bitAt s)
   number-is =
       numbered ∙ ap (λ (l : List ℕ). numberOf (guardedBits l)) gathered ∙ number-of-fields (bitAt s) (bitAt-small s)
-
-  -- it is below 16
-  pub number-fits : n < 16
-  number-fits = rw number-is (number-small (bitAt s) (bitAt-small s))
 
   -- what the steps answer, one after the other, is the reading
   pub read-whole : (w : List ℕ) (m : ℕ) (r : Record) → length s ≡ 18 → w ≡ mendedFields v n → r ≡ recordBy w
@@ -207,7 +203,11 @@ module _ (r : Record) (v : List ℕ) (h : ℕ) (listed : v ≡ fieldsOf r) (numb
   pub parity-fits : h < 16
   parity-fits = rw numbered (fromBits-lt (check (guardedBits v)) 4 (λ i l. omega arith))
 
-  -- and with it under 0 the list is sent as the frame of the record
+  -- with it under 0 the list is as long
+  pub parity-long : length (set v 0 h) ≡ 29
+  parity-long = length-set v 0 h ∙ ap length listed ∙ fields-long r
+
+  -- and is sent as the frame of the record
   pub frame-is : packed (sent (λ f. getD (set v 0 h) f 0)) ≡ frameOf r
   unfolding frameOf
   frame-is =

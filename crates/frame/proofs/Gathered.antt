@@ -1,4 +1,4 @@
--- The loop of `gather`: after p places each field holds what those places give it.
+-- The loop of `reader::gather`: after p places each field holds what those places give it.
 -- Assumes nothing.
 use mathlib.Core.Path.{_≡_, _∙_, sym, refl, ap, subst}
 use mathlib.Core.Bool.{Bool, true, false, cond}

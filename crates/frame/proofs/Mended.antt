@@ -6,7 +6,7 @@ use mathlib.Core.List.{List}
 use Prim.Native.Nat.{ℕ, zero, suc, _+_, _-_, _*_, _/_, _%_, _^_, _<_, _≤_}
 use native.Mathlib.Omega.{arith}
 use native.Mathlib.Decide.{ℕ-discrete}
-use borrow.Author.Tests.{eq-eqb, ne-eqb}
+use borrow.Author.Tests.{eq-eqb, ne-eqb, lt-ltb}
 use lib.Bits.{bitXor, xor-lt}
 use lib.Dec.{T, eqb, eqb→eq, ltb, ltb→lt}
 use lib.ListN.{getD, set}
@@ -267,11 +267,12 @@ module _ (b : ℕ → ℕ) (bits : (p : ℕ) → b p < 2) where
   mended-fields f l = go (ℕ-discrete (number b) 0)
     where
       go : Dec (number b ≡ 0)
-          → getD (cond (eqb (number b) 0) v (inverting v (getD guardedEntries (number b - 1) 0))) f 0
+          → getD (cond (eqb (number b) 0) v
+          (cond (ltb (number b) 16) (inverting v (getD guardedEntries (number b - 1) 0)) v)) f 0
           ≡ indexIn (mended b) f
       go (yes e) = rw (eq-eqb (number b) 0 e) (at-field f l ∙ away f (λ q p r o w. none-at-zero e q p w))
       go (no e) =
-          rw (ne-eqb (number b) 0 e)
+          rw (ne-eqb (number b) 0 e, lt-ltb (number b) 16 number-small)
           (rw (entry-field (number b) one (h one), entry-bit (number b) one (h one))
           (at-mended one f l (ℕ-discrete f (F one))))
         where

@@ -1,5 +1,5 @@
--- The loop of `number_of`: the exclusive or of the numbers of the guarded bits passed that are 1. And the entries of
--- the guarded bits.
+-- The loop of `parity::number_of`: the exclusive or of the numbers of the guarded bits passed that are 1. And the
+-- entries of the guarded bits.
 -- Assumes nothing.
 use mathlib.Core.Path.{_≡_, _∙_, sym, refl, ap, subst}
 use mathlib.Core.List.{List}
@@ -8,7 +8,7 @@ use native.Mathlib.Omega.{arith}
 use lib.Dec.{ltb, ltb→lt}
 use lib.Bits.{bitXor, xor-lt}
 use lib.ListN.{getD, set}
-use borrow.Author.Tests.{eq-eqb, ne-eqb}
+use borrow.Author.Tests.{eq-eqb, ne-eqb, le-ltb, lt-ltb}
 use lib.Pow.{shl-exact}
 use native.Mathlib.Nat.{one-mul, mul-one, mul-zero}
 use Rattle.laws.specs.Total.{total, bit, fromBits}
@@ -116,15 +116,28 @@ pub mended-none : (v : List ℕ) (n : ℕ) → n ≡ 0 → v ≡ mendedFields v 
 unfolding mendedFields
 mended-none v n e = rw (eq-eqb n 0 e)
 
--- a number below 16 as the code mends it, by its list t of entries
-module _ (t : List ℕ) (same : t ≡ guardedEntries) (n : ℕ) (e : n ≡ 0 → ⊥) where
-  -- the bit that the entry of n names is inverted
-  pub mended-one : (v : List ℕ)
-      → set v (getD t (n - 1) 0 / 16)
-      (bitXor (getD v (getD t (n - 1) 0 / 16) 0) (1 * 2 ^ (getD t (n - 1) 0 % 16) % 65536)) ≡ mendedFields v n
+-- a number that is not 0, as the code mends it
+module _ (n : ℕ) (e : n ≡ 0 → ⊥) where
+  -- one over 15 inverts none
+  pub mended-beyond : (v : List ℕ) → 15 < n → v ≡ mendedFields v n
   unfolding mendedFields
-  mended-one v = rw (same, ne-eqb n 0 e, shifted-one (getD guardedEntries (n - 1) 0 % 16) (omega arith))
+  mended-beyond v h = rw (ne-eqb n 0 e, le-ltb n 16 (omega arith))
 
-  -- and is in one of the 29
-  pub mended-field : n < 16 → getD t (n - 1) 0 / 16 < 29
-  mended-field h = rw same (guarded-field (n - 1) (omega arith))
+  -- of any other, by the code's list t of entries
+  module _ (t : List ℕ) (same : t ≡ guardedEntries) (h : n ≤ 15) where
+    -- the bit that the entry of n names is inverted
+    pub mended-one : (v : List ℕ)
+        → set v (getD t (n - 1) 0 / 16)
+        (bitXor (getD v (getD t (n - 1) 0 / 16) 0) (1 * 2 ^ (getD t (n - 1) 0 % 16) % 65536)) ≡ mendedFields v n
+    unfolding mendedFields
+    mended-one v =
+        rw (
+          same,
+          ne-eqb n 0 e,
+          lt-ltb n 16 (omega arith),
+          shifted-one (getD guardedEntries (n - 1) 0 % 16) (omega arith),
+        )
+
+    -- and is in one of the 29
+    pub mended-field : getD t (n - 1) 0 / 16 < 29
+    mended-field = rw same (guarded-field (n - 1) (omega arith))

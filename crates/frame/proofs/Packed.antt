@@ -1,4 +1,4 @@
--- The loops of `byte_at` and `pack`: eight bits shifted in one after the other, and eighteen bytes.
+-- The loops of `writer::byte_at` and `writer::lay`: eight bits shifted in one after the other, and eighteen bytes.
 -- Assumes nothing.
 use mathlib.Core.Path.{_≡_, _∙_, sym, refl, ap, subst}
 use mathlib.Core.List.{List}
@@ -92,7 +92,7 @@ module _ (b : ℕ → ℕ) (bits : (p : ℕ) → b p < 2) (k : ℕ) (h : k < 18)
 -- the next bit to send, as the code takes it, of its list t of entries
 module _ (v t : List ℕ) (same : t ≡ entries) (p : ℕ) (h : p < 144) where
   -- it is the bit sent at that place
-  pub sent-next : getD v (getD t p 0 / 16) 0 / 2 ^ (getD t p 0 % 16) % 2 ≡ sent (λ f. getD v f 0) (p + 1)
+  sent-next : getD v (getD t p 0 / 16) 0 / 2 ^ (getD t p 0 % 16) % 2 ≡ sent (λ f. getD v f 0) (p + 1)
   unfolding sent
   sent-next = rw (same, entry-field p h, entry-bit p h)
 
@@ -104,3 +104,11 @@ module _ (v t : List ℕ) (same : t ≡ entries) (p : ℕ) (h : p < 144) where
 pub sent-small : (v : ℕ → ℕ) (p : ℕ) → sent v p < 2
 unfolding sent
 sent-small v p = omega arith
+
+-- one bit more shifted in, as the code takes it
+pub shifted-turn : (v t : List ℕ) → t ≡ entries → {from q x : ℕ} → from + q < 144
+    → Shifted (sent (λ f. getD v f 0)) (sent-small (λ f. getD v f 0)) from q x → q < 8
+    → Shifted (sent (λ f. getD v f 0)) (sent-small (λ f. getD v f 0)) from (q + 1)
+    (x * 2 + getD v (getD t (from + q) 0 / 16) 0 / 2 ^ (getD t (from + q) 0 % 16) % 2)
+shifted-turn v t same {from} {q} {x} h s l =
+    rw (sent-next v t same (from + q) h) (shifted-more (sent (λ f. getD v f 0)) (sent-small (λ f. getD v f 0)) from s l)

@@ -1,9 +1,9 @@
--- What the private steps of reading and writing answer.
+-- What the steps of reading and writing answer.
 use mathlib.Core.Bool.{cond}
 use mathlib.Core.List.{List, map}
 use Prim.Native.Nat.{ℕ, _+_, _-_, _*_, _/_, _%_, _^_}
 use lib.Bits.{bitXor}
-use lib.Dec.{eqb}
+use lib.Dec.{eqb, ltb}
 use lib.ListN.{getD, set}
 use Rattle.laws.specs.Total.{total, bit}
 use Rattle.laws.specs.Tabulate.{tabulate}
@@ -35,9 +35,9 @@ bitOfEntry v e = bit (getD v (e / 16) 0) (e % 16)
 abbrev pub inverting : List ℕ → ℕ → List ℕ
 inverting v e = set v (e / 16) (bitXor (getD v (e / 16) 0) (2 ^ (e % 16)))
 
--- the indices with the bit of correction number n inverted; 0 inverts none
+-- the indices with the bit of correction number n inverted; 0 inverts none, and neither does a number that no bit has
 unfoldable pub mendedFields : List ℕ → ℕ → List ℕ
-mendedFields v n = cond (eqb n 0) v (inverting v (getD guardedEntries (n - 1) 0))
+mendedFields v n = cond (eqb n 0) v (cond (ltb n 16) (inverting v (getD guardedEntries (n - 1) 0)) v)
 
 -- the record of a list of indices by field, and back, the parity bits 0
 abbrev pub recordBy : List ℕ → Record

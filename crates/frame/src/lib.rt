@@ -1,16 +1,10 @@
-// A frame: 18 bytes to an index record with correction, and a record to 18 bytes.
-// Both follow the table of 3.8.2 one place at a time. Between the bytes and the record the indices stand in one list by field
-// number, the four parity bits HP-0 to HP-3 under 0.
+// A frame: the table of 3.8.2, the order mark of a record, and what reading and writing answer.
+// `reader` and `writer` follow the table one place at a time. Between the bytes and the record the indices stand in one list by
+// field number, the four parity bits HP-0 to HP-3 under 0.
 use record::Record;
 ghost use mathlib.Core.Path.{_≡_};
-ghost use Prim.Native.Nat.{_+_, _-_, _*_, _<_};
-ghost use lib.ListN.{length, getD};
-ghost use Rattle.laws.specs.Tabulate.{tabulate};
-ghost use Rattle.laws.specs.Total.{fromBits};
-ghost use Rattle.frame.specs.Parity.{numberOf};
-ghost use Rattle.frame.specs.Frame.{placeAt, bitAt, packed, indexIn, sent, frameOf};
-ghost use Rattle.frame.specs.Answers.{readingOf, correctionNumber, writtenOf, frameLeft, recordMark};
-ghost use Rattle.frame.specs.Steps.{entries, guardedEntries, bitOfEntry, indicesUpTo, mendedFields, recordBy, fieldsOf};
+ghost use Rattle.frame.specs.Answers.{correctionNumber, recordMark};
+ghost use Rattle.frame.specs.Steps.{entries};
 
 // Whether a frame was read. (Refusal 1: it was not eighteen bytes.)
 pub enum Verdict {
@@ -73,78 +67,8 @@ const TABLE: [u16; 144] = [
     0x023, 0x1a1, 0x152, 0x042, 0x135, 0x1c0, // 139 to 144: LSP 2-3, CG(4)-1, CI(3)-2, LSP 4-2, PD(3)-5, SY
 ];
 
-// The guarded bits by their correction numbers, 1 first (3.9), in the same form.
-#[rattlefmt::skip]
-const GUARDED: [u16; 15] = [
-    0x000, 0x001, 0x0b5, 0x002, 0x0b6, //  1 to 5: HP-0, HP-1, PD(1)-5, HP-2, PD(1)-6
-    0x0b7, 0x0c4, 0x003, 0x104, 0x135, //  6 to 10: PD(1)-7, PG(1)-4, HP-3, PG(2)-4, PD(3)-5
-    0x136, 0x137, 0x144, 0x184, 0x1b0, // 11 to 15: PD(3)-6, PD(3)-7, PG(3)-4, PG(4)-4, SP
-];
-
-// Reads a frame.
-pub fn read(frame: &[u8]) -> Reading
-    ensures { λ r. ⌜ r ≡ readingOf (now (frame .entry)) ⌝ }
-{
-    if frame.len() != 18 {
-        return Reading {
-            verdict: Verdict::WrongLength,
-            indices: Record {
-                lsp: [0u16; 10],
-                subframes: [0u16; 16],
-                sp: 0,
-                sy: 0,
-            },
-            number: 0,
-            mark: 0,
-        };
-    }
-    let received = gather(frame);
-    let number = number_of(received);
-    let indices = to_record(mend(received, number));
-    let mark = mark_of(indices);
-    Reading {
-        verdict: Verdict::Read,
-        indices,
-        number,
-        mark,
-    }
-}
-
-// Writes a record into a lent frame. A refusal writes nothing.
-pub fn write(r: Record, frame: &mut [u8]) -> Written
-    ensures { λ a. ⌜ a ≡ writtenOf r (length (now (frame .entry))) ⌝ }
-    ensures { λ a. ⌜ now (frame .exit) ≡ frameLeft r (now (frame .entry)) ⌝ }
-{
-    if frame.len() != 18 {
-        return Written::WrongLength;
-    }
-    let field = r.too_large();
-    if field != 0 {
-        return Written::TooLarge(field);
-    }
-    let mark = mark_of(r);
-    if mark != 0 {
-        return Written::Falling(mark);
-    }
-    if r.sp != 0 {
-        return Written::Expansion;
-    }
-    lay(r, frame);
-    Written::Frame
-}
-
-// Lays the frame of a record into eighteen bytes.
-fn lay(r: Record, frame: &mut [u8])
-    requires { ⌜ length (now frame) ≡ 18 ⌝ }
-    ensures { λ _. ⌜ now (frame .exit) ≡ frameOf r ⌝ }
-{
-    let mut fields = to_fields(r);
-    fields[0] = number_of(fields) as u16;
-    pack(fields, frame);
-}
-
 // The order mark of a record.
-fn mark_of(r: Record) -> usize
+pub fn mark_of(r: Record) -> usize
     ensures { λ m. ⌜ m ≡ recordMark r ⌝ }
 {
     let indices = r.lsp;
@@ -154,160 +78,8 @@ fn mark_of(r: Record) -> usize
 }
 
 // The table, as the definitions have it.
-fn table() -> [u16; 144]
+pub fn table() -> [u16; 144]
     ensures { λ r. ⌜ r ≡ entries ⌝ }
 {
     TABLE
-}
-
-fn guarded() -> [u16; 15]
-    ensures { λ r. ⌜ r ≡ guardedEntries ⌝ }
-{
-    GUARDED
-}
-
-// The indices in a frame, uncorrected, by field number.
-fn gather(frame: &[u8]) -> [u16; 29]
-    requires { ⌜ length (now frame) ≡ 18 ⌝ }
-    ensures { λ r. ⌜ r ≡ tabulate (indexIn (bitAt (now (frame .entry)))) 29 ⌝ }
-{
-    let table = table();
-    let mut fields = [0u16; 29];
-    let mut n = 0;
-    while n < 18 {
-        add_byte(frame, n, &table, &mut fields);
-        n += 1;
-    }
-    fields
-}
-
-// Adds the eight bits of byte n to the indices that the bytes before it gave, the top bit at the first of its places.
-fn add_byte(frame: &[u8], n: usize, table: &[u16], fields: &mut [u16])
-    requires { ⌜ n < length (now frame) ⌝ }
-    requires { ⌜ n < 18 ⌝ }
-    requires { ⌜ now table ≡ entries ⌝ }
-    requires { ⌜ now fields ≡ indicesUpTo (bitAt (now frame)) (8 * n) ⌝ }
-    ensures { λ _. ⌜ now (fields .exit) ≡ indicesUpTo (bitAt (now (frame .entry))) (8 * (n + 1)) ⌝ }
-{
-    let byte = frame[n];
-    let from = 8 * n;
-    let mut q = 0;
-    while q < 8 {
-        let entry = table[from + q];
-        let f = (entry / 16) as usize;
-        fields[f] += (((byte >> (7 - q)) % 2) as u16) << (entry % 16);
-        q += 1;
-    }
-}
-
-// The correction number of a list of indices by field: the exclusive or of the numbers of the guarded bits that are 1.
-fn number_of(fields: [u16; 29]) -> usize
-    ensures { λ r. ⌜ r ≡ numberOf (λ n. bitOfEntry fields (getD guardedEntries (n - 1) 0)) ⌝ }
-{
-    let guarded = guarded();
-    let mut number = 0;
-    let mut n = 0;
-    while n < 15 {
-        let entry = guarded[n];
-        let f = (entry / 16) as usize;
-        let x = ((fields[f] >> (entry % 16)) % 2) as usize;
-        n += 1;
-        number = number ^ (n * x);
-    }
-    number
-}
-
-// The indices with the bit of a correction number inverted; 0 inverts none.
-fn mend(fields: [u16; 29], number: usize) -> [u16; 29]
-    requires { ⌜ number < 16 ⌝ }
-    ensures { λ r. ⌜ r ≡ mendedFields fields number ⌝ }
-{
-    if number == 0 {
-        return fields;
-    }
-    let guarded = guarded();
-    let mut v = fields;
-    let entry = guarded[number - 1];
-    let f = (entry / 16) as usize;
-    let k = entry % 16;
-    v[f] = v[f] ^ (1 << k);
-    v
-}
-
-// The record of a list of indices by field.
-fn to_record(fields: [u16; 29]) -> Record
-    ensures { λ r. ⌜ r ≡ recordBy fields ⌝ }
-{
-    let mut lsp = [0u16; 10];
-    let mut k = 0;
-    while k < 10 {
-        lsp[k] = fields[k + 1];
-        k += 1;
-    }
-    let mut subframes = [0u16; 16];
-    let mut n = 0;
-    while n < 16 {
-        subframes[n] = fields[n + 11];
-        n += 1;
-    }
-    Record {
-        lsp,
-        subframes,
-        sp: fields[27],
-        sy: fields[28],
-    }
-}
-
-// A record's indices by field, the parity bits 0.
-fn to_fields(r: Record) -> [u16; 29]
-    ensures { λ v. ⌜ v ≡ fieldsOf r ⌝ }
-{
-    let mut fields = [0u16; 29];
-    let lsp = r.lsp;
-    let mut k = 0;
-    while k < 10 {
-        fields[k + 1] = lsp[k];
-        k += 1;
-    }
-    let subframes = r.subframes;
-    let mut n = 0;
-    while n < 16 {
-        fields[n + 11] = subframes[n];
-        n += 1;
-    }
-    fields[27] = r.sp;
-    fields[28] = r.sy;
-    fields
-}
-
-// Byte k of the frame that the indices are sent in: eight places of the table, the first of them at the top.
-fn byte_at(fields: &[u16], table: &[u16], k: usize) -> u8
-    requires { ⌜ length (now fields) ≡ 29 ⌝ }
-    requires { ⌜ now table ≡ entries ⌝ }
-    requires { ⌜ k < 18 ⌝ }
-    ensures { λ r. ⌜ r ≡ fromBits (λ i. sent (λ f. getD (now (fields .entry)) f 0) (placeAt k i)) 8 ⌝ }
-{
-    let from = 8 * k;
-    let mut x: u16 = 0;
-    let mut q = 0;
-    while q < 8 {
-        let entry = table[from + q];
-        let f = (entry / 16) as usize;
-        x = x * 2 + (fields[f] >> (entry % 16)) % 2;
-        q += 1;
-    }
-    x as u8
-}
-
-// The frame that the indices are sent in.
-fn pack(fields: [u16; 29], frame: &mut [u8])
-    requires { ⌜ length (now frame) ≡ 18 ⌝ }
-    ensures { λ r. ⌜ now (frame .exit) ≡ packed (sent (λ f. getD fields f 0)) ⌝ }
-{
-    let table = table();
-    let mut k = 0;
-    while k < 18 {
-        frame[k] = byte_at(&fields, &table, k);
-        k += 1;
-    }
 }

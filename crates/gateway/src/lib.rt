@@ -19,7 +19,7 @@ pub extern "C" fn oatlantern_read_frame(frame: &[u8], out: &mut [u8]) -> i32
     if out.len() != 56 {
         return -1;
     }
-    let reading = frame::read(frame);
+    let reading = reader::read(frame);
     let verdict = reading.verdict;
     match verdict {
         Verdict::Read => {
@@ -40,7 +40,7 @@ pub extern "C" fn oatlantern_write_frame(record: &[u8], frame: &mut [u8]) -> i32
     if record.len() != 56 {
         return -1;
     }
-    let written = frame::write(take(record), frame);
+    let written = writer::write(take(record), frame);
     match written {
         Written::Frame => 0,
         Written::WrongLength => -1,

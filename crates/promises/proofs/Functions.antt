@@ -1,4 +1,4 @@
--- The promises about frames, carried to `frame::read` and `frame::write` by their contracts.
+-- The promises about frames, carried to `reader::read` and `writer::write` by their contracts.
 -- Assumes nothing.
 use mathlib.Core.Path.{_≡_, _∙_, sym, ap, subst}
 use mathlib.Core.List.{List}

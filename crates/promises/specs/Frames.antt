@@ -1,5 +1,5 @@
 -- The second and the third demand for frames. Each statement is about the definitions that the contracts of
--- `frame::read` and `frame::write` cite; proofs/Frames.antt shows each and carries it to the two functions.
+-- `reader::read` and `writer::write` cite; proofs/Frames.antt shows each and carries it to the two functions.
 use mathlib.Core.Path.{_≡_}
 use mathlib.Core.List.{List}
 use mathlib.Core.Logic.{_↔_}

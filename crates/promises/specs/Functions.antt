@@ -1,5 +1,5 @@
 -- The promises about frames said of the two functions themselves: of any answer and any bytes left that the contracts
--- of `frame::write` and `frame::read` allow.
+-- of `writer::write` and `reader::read` allow.
 use mathlib.Core.Path.{_≡_}
 use mathlib.Core.List.{List}
 use mathlib.Core.Logic.{_↔_}
@@ -15,10 +15,10 @@ use Rattle.frame.specs.declared.Reading.{Reading}
 use Rattle.frame.specs.declared.Verdict.the-variants as Verdict
 use Rattle.frame.specs.declared.Written.{Written}
 use Rattle.frame.specs.declared.Written.the-variants as Written
-use Rattle.frame.proofs.read.Kinds as read
-use Rattle.frame.proofs.read.Reads as read-reads
-use Rattle.frame.proofs.write.Kinds as write
-use Rattle.frame.proofs.write.Reads as write-reads
+use Rattle.reader.proofs.read.Kinds as read
+use Rattle.reader.proofs.read.Reads as read-reads
+use Rattle.writer.proofs.write.Kinds as write
+use Rattle.writer.proofs.write.Reads as write-reads
 use Rattle.promises.specs.Frames.{Shaped, Eighteen, flipped, OfTheFlips, DataBit, dataBitOf, AtMostOne}
 use Rattle.promises.specs.Frames.{ExactlyTwo}
 

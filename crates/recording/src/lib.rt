@@ -153,7 +153,7 @@ impl Hearing {
     fn of(bytes: &[u8], before: State) -> Hearing
         ensures { λ r. ⌜ r ≡ hearingOf before (now (bytes .entry)) ⌝ }
     {
-        let reading = frame::read(bytes);
+        let reading = reader::read(bytes);
         let values = decoder::values_of(reading.indices, before);
         Hearing { reading, values }
     }
@@ -162,7 +162,7 @@ impl Hearing {
     fn nothing(s: &[u8], before: State) -> Hearing
         ensures { λ r. ⌜ r ≡ noHearing before ⌝ }
     {
-        let reading = frame::read(&s[..0]);
+        let reading = reader::read(&s[..0]);
         let values = Values::nothing(before);
         Hearing { reading, values }
     }
