@@ -10,7 +10,7 @@ use Rattle.laws.specs.Tabulate.{tabulate}
 use Rattle.record.specs.Fields.{indexOf}
 use Rattle.record.specs.declared.Record.{Record}
 use Rattle.frame.specs.Places.{Name, places, fieldOf, bitOf}
-use Rattle.frame.specs.Parity.{guarded}
+use Rattle.frame.specs.Parity.{guarded, numberOf}
 use Rattle.frame.specs.Frame.{share}
 
 -- a name as one number, the field above its bit
@@ -30,6 +30,13 @@ indicesUpTo b p = tabulate (λ f. total (share b f) p) 29
 -- the bit that an entry names, in a list of indices by field
 abbrev pub bitOfEntry : List ℕ → ℕ → ℕ
 bitOfEntry v e = bit (getD v (e / 16) 0) (e % 16)
+
+-- the guarded bit of correction number n there, and the correction number of the list
+abbrev pub guardedIn : List ℕ → ℕ → ℕ
+guardedIn v n = bitOfEntry v (getD guardedEntries (n - 1) 0)
+
+abbrev pub numberIn : List ℕ → ℕ
+numberIn v = numberOf (guardedIn v)
 
 -- the indices with the bit that an entry names inverted
 abbrev pub inverting : List ℕ → ℕ → List ℕ

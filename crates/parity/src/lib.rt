@@ -1,9 +1,6 @@
 // Parity and correction (3.9), on a list of indices by field number, the four parity bits HP-0 to HP-3 under 0.
 ghost use mathlib.Core.Path.{_≡_};
-ghost use Prim.Native.Nat.{_-_};
-ghost use lib.ListN.{getD};
-ghost use Rattle.frame.specs.Parity.{numberOf};
-ghost use Rattle.frame.specs.Steps.{guardedEntries, bitOfEntry, mendedFields};
+ghost use Rattle.frame.specs.Steps.{guardedEntries, numberIn, mendedFields};
 
 // The guarded bits by their correction numbers, 1 first (3.9): the field in the upper digits, the bit in the last.
 #[rattlefmt::skip]
@@ -22,7 +19,7 @@ fn guarded() -> [u16; 15]
 
 // The correction number of a list of indices by field: the exclusive or of the numbers of the guarded bits that are 1.
 pub fn number_of(fields: [u16; 29]) -> usize
-    ensures { λ r. ⌜ r ≡ numberOf (λ n. bitOfEntry fields (getD guardedEntries (n - 1) 0)) ⌝ }
+    ensures { λ r. ⌜ r ≡ numberIn fields ⌝ }
 {
     let guarded = guarded();
     let mut number = 0;
