@@ -1,11 +1,11 @@
--- `codebook::bits` meets its contract: by the number's sign, the number or 65,536 more.
+-- `draws::bits` meets its contract: by the number's sign, the number or 65,536 more.
 -- Assumes nothing.
 use mir.Facts.{toZ-ofZ}
-use Rattle.codebook.proofs.Sixteen.{wider, widened, Lifted, lifted, Plain, plain}
-use Rattle.codebook.proofs.bits.Statement.{statement}
-use Rattle.codebook.proofs.bits.Tie as tie
-use Rattle.codebook.proofs.bits.Reads as reads
-use Rattle.codebook.proofs.bits.Lts as lts
+use Rattle.draws.proofs.Sixteen.{wider, widened, Lifted, lifted, Plain, plain}
+use Rattle.draws.proofs.bits.Statement.{statement}
+use Rattle.draws.proofs.bits.Tie as tie
+use Rattle.draws.proofs.bits.Reads as reads
+use Rattle.draws.proofs.bits.Lts as lts
 
 -- the number is negative
 below : (c : lts.Then1 reads.Pre reads.Post) → Lifted (c .before .args .x)

@@ -15,7 +15,7 @@ use mir.Syntax.{w16, w32}
 use mir.Val.{Fits, SFits, hbits, ofZ, toZ}
 use mir.Facts.{toZ-ofZ, sfits-widen, sfits-toZ, toZ-pos, toZ-neg}
 use borrow.Author.Needs.{sfits-of}
-use Rattle.codebook.specs.Draw.{wrapped}
+use Rattle.draws.specs.Draw.{wrapped}
 
 -- a − b, for two naturals
 pub sub-under : (a b : ℕ) → a < b → subℕ a b ≡ negsuc (b - suc a)

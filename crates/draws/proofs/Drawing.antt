@@ -11,10 +11,10 @@ use lib.ListN.{set}
 use mir.Syntax.{w16}
 use mir.Val.{SFits, hbits, ofZ, toZ}
 use mir.Facts.{toZ-ofZ}
-use Rattle.codebook.specs.declared.Generator.{Generator}
-use Rattle.codebook.specs.declared.Draw.{Draw}
-use Rattle.codebook.specs.Draw.{positionOf, movedOf, wrapped, keptAt, drawOf}
-use Rattle.codebook.proofs.Sixteen.{wrapped-fits, sum-below, bits-sum}
+use Rattle.draws.specs.declared.Generator.{Generator}
+use Rattle.draws.specs.declared.Draw.{Draw}
+use Rattle.draws.specs.Draw.{positionOf, movedOf, wrapped, keptAt, drawOf}
+use Rattle.draws.proofs.Sixteen.{wrapped-fits, sum-below, bits-sum}
 
 -- the position that a number counts as, by its remainder on five
 pub fifth : (p : ℕ) → p % 5 ≡ 0 → (5 ≡ positionOf p) × ((1 ≤ 5) × (5 ≤ 5))

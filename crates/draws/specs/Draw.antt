@@ -6,8 +6,8 @@ use lib.Dec.{leb, eqb}
 use lib.IntN.{ℤ, pos, negsuc, _+ℤ_, _-ℤ_}
 use lib.Signed.{ltZ}
 use lib.ListN.{getD, set}
-use Rattle.codebook.specs.declared.Generator.{Generator}
-use Rattle.codebook.specs.declared.Draw.{Draw}
+use Rattle.draws.specs.declared.Generator.{Generator}
+use Rattle.draws.specs.declared.Draw.{Draw}
 
 -- the start: `data y/-21161, -8478, 30892, -10216, 16950/`, `data j/2/, k/5/`; the first position is k
 unfoldable pub freshGenerator : Generator

@@ -1,13 +1,13 @@
--- `codebook::signed` meets its contract: bits from half of their range on stand for 65,536 less.
+-- `draws::signed` meets its contract: bits from half of their range on stand for 65,536 less.
 -- Assumes nothing.
 use native.Mathlib.Omega.{arith}
 use mir.Facts.{toZ-ofZ}
-use Rattle.codebook.proofs.Sixteen.{Lowered, lowered}
+use Rattle.draws.proofs.Sixteen.{Lowered, lowered}
 use borrow.Author.Needs.{needs}
-use Rattle.codebook.proofs.signed.Statement.{statement}
-use Rattle.codebook.proofs.signed.Tie as tie
-use Rattle.codebook.proofs.signed.Reads as reads
-use Rattle.codebook.proofs.signed.Lts as lts
+use Rattle.draws.proofs.signed.Statement.{statement}
+use Rattle.draws.proofs.signed.Tie as tie
+use Rattle.draws.proofs.signed.Reads as reads
+use Rattle.draws.proofs.signed.Lts as lts
 
 -- the bits are from half of their range on
 low : (c : lts.Else1 reads.Pre reads.Post) → Lowered (c .before .args .x)

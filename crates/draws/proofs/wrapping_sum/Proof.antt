@@ -1,9 +1,9 @@
--- `codebook::wrapping_sum` meets its contract: the sum of the bits, read as signed, is the wrapped sum.
+-- `draws::wrapping_sum` meets its contract: the sum of the bits, read as signed, is the wrapped sum.
 -- Assumes nothing.
-use Rattle.codebook.proofs.Drawing.{summed}
+use Rattle.draws.proofs.Drawing.{summed}
 use borrow.Author.Needs.{needs}
-use Rattle.codebook.proofs.wrapping_sum.Statement.{statement}
-use Rattle.codebook.proofs.wrapping_sum.Tie as tie
+use Rattle.draws.proofs.wrapping_sum.Statement.{statement}
+use Rattle.draws.proofs.wrapping_sum.Tie as tie
 
 returns : tie.Need-returns
 returns c =

@@ -1,9 +1,9 @@
--- `codebook::Generator::draw` meets its contract.
+-- `draws::Generator::draw` meets its contract.
 -- Assumes nothing.
-use Rattle.codebook.proofs.Drawing.{drawn}
+use Rattle.draws.proofs.Drawing.{drawn}
 use native.Mathlib.Omega.{arith}
-use Rattle.codebook.proofs.Generator.draw.Statement.{statement}
-use Rattle.codebook.proofs.Generator.draw.Tie as tie
+use Rattle.draws.proofs.Generator.draw.Statement.{statement}
+use Rattle.draws.proofs.Generator.draw.Tie as tie
 
 returns : tie.Need-returns
 returns c =

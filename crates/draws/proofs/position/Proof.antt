@@ -1,8 +1,8 @@
--- `codebook::position` meets its contract.
+-- `draws::position` meets its contract.
 -- Assumes nothing.
-use Rattle.codebook.proofs.Drawing.{fifth, by-remainder}
-use Rattle.codebook.proofs.position.Statement.{statement}
-use Rattle.codebook.proofs.position.Tie as tie
+use Rattle.draws.proofs.Drawing.{fifth, by-remainder}
+use Rattle.draws.proofs.position.Statement.{statement}
+use Rattle.draws.proofs.position.Tie as tie
 
 returns : tie.Need-returns
 returns c = fifth (c .before .args .p) (c .if1 .taken)

@@ -1,9 +1,9 @@
--- `codebook::moved` meets its contract.
+-- `draws::moved` meets its contract.
 -- Assumes nothing.
-use Rattle.codebook.proofs.Drawing.{round, down}
+use Rattle.draws.proofs.Drawing.{round, down}
 use native.Mathlib.Omega.{arith}
-use Rattle.codebook.proofs.moved.Statement.{statement}
-use Rattle.codebook.proofs.moved.Tie as tie
+use Rattle.draws.proofs.moved.Statement.{statement}
+use Rattle.draws.proofs.moved.Tie as tie
 
 returns : tie.Need-returns
 returns c = round (c .before .args .p) (c .if1 .taken)
