@@ -9,7 +9,7 @@ use native.Mathlib.Nat.{add-sub-cancel}
 use lib.Dec.{T, leb, eqb, leb→le, eqb→eq}
 use lib.ListN.{length, getD, set}
 use lib.Pow.{pow-mono}
-use borrow.Author.Tests.{eq-eqb, ne-eqb, leb-false}
+use borrow.Author.Tests.{leb-false}
 use Rattle.laws.specs.Table.{both, every}
 use Rattle.laws.specs.Tabulate.{tabulate}
 use Rattle.laws.proofs.Table.{at, both-left, both-right}
@@ -19,6 +19,7 @@ use Rattle.laws.proofs.Filled.{Filled, filled-more}
 use Rattle.lsp.specs.Table.{bits, column, entryPrinted, asPrinted, overIn, tooLarge, hzAt, hertzOf}
 use Rattle.lsp.specs.declared.Hertz.{Hertz}
 use Rattle.lsp.specs.declared.Verdict.the-variants.{Within, TooLarge}
+use Rattle.lsp.proofs.Laws.{hertz-given, hertz-refused}
 
 -- the entry at row k for LSP i+1
 pub entry : (rows : List ℕ) → T (asPrinted rows) → (i k : ℕ) → i < 10 → k < 16
@@ -103,11 +104,9 @@ module _ (indices : List ℕ) {large : ℕ} (is : large ≡ tooLarge indices) wh
   -- an index too large is told by its LSP
   pub refused : (large ≡ 0 → ⊥)
       → _≡_ {A = Hertz} (record { verdict = TooLarge large; hz = tabulate (λ k. 0) 10 }) (hertzOf indices)
-  unfolding hertzOf
-  refused n = rw (sym is, ne-eqb large 0 n) refl
+  refused n = rw is (sym (hertz-refused indices (omega arith)))
 
   -- where there is none, all ten are in Hz
   pub heard : {hz : List ℕ} → large ≡ 0 → hz ≡ tabulate (hzAt indices) 10
       → _≡_ {A = Hertz} (record { verdict = Within; hz = hz }) (hertzOf indices)
-  unfolding hertzOf
-  heard z f = rw (sym is, eq-eqb large 0 z, f) refl
+  heard z f = rw f (sym (hertz-given indices (sym is ∙ z)))
