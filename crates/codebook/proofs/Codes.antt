@@ -44,7 +44,8 @@ pub none-copied : (n : ℕ) {out : List ℤ} → length out ≡ 60 → Copied (p
 none-copied n {out} e = copied-none (pos 0) (codeOf n) out (e ∙ sym (length-code n))
 
 -- storing the element that stands k after the code's first one copies one more
-pub one-copied : (n : ℕ) {k : ℕ} {s out : List ℤ} (v : ℤ) → n ≤ 511 → s ≡ book → Copied (pos 0) (codeOf n) k out → k < 60
+pub one-copied : (n : ℕ) {k : ℕ} {s out : List ℤ} (v : ℤ) → n ≤ 511 → s ≡ book
+    → Copied (pos 0) (codeOf n) k out → k < 60
     → v ≡ getD s (1022 - 2 * n + k) (pos 0) → Copied (pos 0) (codeOf n) (k + 1) (set out k v)
 one-copied n {k} {s} v a b p h e =
     let d : 1022 - 2 * n + k ≡ 2 * (511 - n) + k = omega arith in

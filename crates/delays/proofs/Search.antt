@@ -2,12 +2,12 @@
 -- Assumes nothing.
 use mathlib.Core.Path.{_≡_, _∙_, sym, refl, ap, subst}
 use mathlib.Core.Bool.{Bool, false, cond}
-use Prim.Native.Nat.{ℕ, _+_, _-_, _/_, _%_, _<_, _≤_}
+use Prim.Native.Nat.{ℕ, _+_, _-_, _*_, _/_, _%_, _<_, _≤_}
 use native.Mathlib.Omega.{arith}
 use native.Mathlib.Nat.{div-le-self}
 use native.Mathlib.Decide.{ℕ-discrete, decLt}
 use borrow.Author.Tests.{lt-ltb, le-ltb, le-leb, lt-leb, eq-eqb, ne-eqb}
-use lib.Dec.{T, ltb, eqb}
+use lib.Dec.{T, leb, ltb, eqb}
 use Rattle.laws.proofs.Table.{at}
 use Rattle.laws.proofs.Place.{place-within}
 use Rattle.delays.specs.Table.{delays, twelfthsOf, stretched, rankWith}
@@ -40,6 +40,12 @@ unlisted delay e = here (decLt (rankWith delay) 256)
 has : (delay rank : ℕ) → rank < 256 → stretched rank ≡ delay → rank ≡ rankWith delay
 has delay rank h e = sym (rank-twelfths rank h) ∙ ap rankWith (twelfths-stretched rank h ∙ e)
 
+-- from rank 50 on, what is left of the stretches
+stretched-late : (rank : ℕ) → 50 ≤ rank
+    → stretched rank ≡ cond (leb rank 187) (12 * 34 + 4 * (rank - 50)) (12 * 80 + 12 * (rank - 188))
+unfolding stretched
+stretched-late rank h = rw (lt-leb rank 17 (omega arith), lt-leb rank 49 (omega arith)) refl
+
 -- what the two ways through a stretch answer
 module _ (from step first delay : ℕ) where
   -- a delay between two steps has no rank in it
@@ -50,7 +56,7 @@ module _ (from step first delay : ℕ) where
   pub on-step : (delay - from) % step ≡ 0 → first + (delay - from) / step ≡ rankIn from step first delay
   on-step e = rw (eq-eqb ((delay - from) % step) 0 e) refl
 
-  -- no more of them than twelfths
+  -- which is a small number where both are
   pub steps-small : delay - from ≤ 1000 → first ≤ 256 → first + (delay - from) / step ≤ 1256
   steps-small h l = omega (arith, div-le-self (delay - from) step)
 
@@ -70,19 +76,6 @@ module _ (delay : ℕ) where
   pub too-short : delay < 240 → 256 ≡ rankWith delay
   unfolding evenOf
   too-short h = unlisted delay (simp (lt-ltb delay 240 h))
-
-  -- a delay of 148 samples or more has none
-  pub too-long : 1776 ≤ delay → 256 ≡ rankWith delay
-  unfolding evenOf
-  too-long l =
-      unlisted delay
-      (simp (
-        le-ltb delay 240 (omega arith),
-        le-ltb delay 312 (omega arith),
-        le-ltb delay 408 (omega arith),
-        le-ltb delay 960 (omega arith),
-        le-ltb delay 1776 l,
-      ))
 
   -- from 20 samples in thirds
   pub first-thirds : 240 ≤ delay → delay < 312 → rankIn 240 4 0 delay ≡ rankWith delay
@@ -104,39 +97,31 @@ module _ (delay : ℕ) where
       (λ n. let m : delay % 3 ≡ 0 → ⊥ = (λ e. n (omega arith)) in
       simp (le-ltb delay 240 (omega arith), le-ltb delay 312 l, lt-ltb delay 408 h, ne-eqb (delay % 3) 0 m))
 
+  -- from 34 samples on, what is left of the tests
+  even-late : 408 ≤ delay
+      → evenOf delay ≡ cond (ltb delay 960) (eqb (delay % 4) 0) (cond (ltb delay 1776) (eqb (delay % 12) 0) false)
+  unfolding evenOf
+  even-late l = simp (le-ltb delay 240 (omega arith), le-ltb delay 312 (omega arith), le-ltb delay 408 l)
+
   -- from 34 samples in thirds
   pub second-thirds : 408 ≤ delay → delay < 960 → rankIn 408 4 50 delay ≡ rankWith delay
-  unfolding stretched evenOf
   second-thirds l h =
       in-stretch 408 4 50 delay
-      (λ e. let r = lt-leb (50 + (delay - 408) / 4) 17 (omega arith) in
-      let s = lt-leb (50 + (delay - 408) / 4) 49 (omega arith) in
-      let t = le-leb (50 + (delay - 408) / 4) 187 (omega arith) in
-      (omega arith, rw (r, s, t) (omega arith)))
+      (λ e. let t = le-leb (50 + (delay - 408) / 4) 187 (omega arith) in
+      (omega arith, stretched-late (50 + (delay - 408) / 4) (omega arith) ∙ rw t (omega arith)))
       (λ n. let m : delay % 4 ≡ 0 → ⊥ = (λ e. n (omega arith)) in
-      simp (
-        le-ltb delay 240 (omega arith),
-        le-ltb delay 312 (omega arith),
-        le-ltb delay 408 l,
-        lt-ltb delay 960 h,
-        ne-eqb (delay % 4) 0 m,
-      ))
+      even-late l ∙ simp (lt-ltb delay 960 h, ne-eqb (delay % 4) 0 m))
 
   -- from 80 samples in whole ones
   pub wholes : 960 ≤ delay → delay < 1776 → rankIn 960 12 188 delay ≡ rankWith delay
-  unfolding stretched evenOf
   wholes l h =
       in-stretch 960 12 188 delay
-      (λ e. let r = lt-leb (188 + (delay - 960) / 12) 17 (omega arith) in
-      let s = lt-leb (188 + (delay - 960) / 12) 49 (omega arith) in
-      let t = lt-leb (188 + (delay - 960) / 12) 187 (omega arith) in
-      (omega arith, rw (r, s, t) (omega arith)))
+      (λ e. let t = lt-leb (188 + (delay - 960) / 12) 187 (omega arith) in
+      (omega arith, stretched-late (188 + (delay - 960) / 12) (omega arith) ∙ rw t (omega arith)))
       (λ n. let m : delay % 12 ≡ 0 → ⊥ = (λ e. n (omega arith)) in
-      simp (
-        le-ltb delay 240 (omega arith),
-        le-ltb delay 312 (omega arith),
-        le-ltb delay 408 (omega arith),
-        le-ltb delay 960 l,
-        lt-ltb delay 1776 h,
-        ne-eqb (delay % 12) 0 m,
-      ))
+      even-late (omega arith) ∙ simp (le-ltb delay 960 l, lt-ltb delay 1776 h, ne-eqb (delay % 12) 0 m))
+
+  -- a delay of 148 samples or more has no rank
+  pub too-long : 1776 ≤ delay → 256 ≡ rankWith delay
+  too-long l =
+      unlisted delay (even-late (omega arith) ∙ simp (le-ltb delay 960 (omega arith), le-ltb delay 1776 l))

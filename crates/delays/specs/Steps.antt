@@ -1,5 +1,5 @@
--- What the private functions answer on the way to four delays or four codes: a stretch of the list, one pair of subframes,
--- and both pairs.
+-- What the private functions answer on the way to four delays or four codes: a stretch of the list, one pair of
+-- subframes, and both pairs.
 use mathlib.Core.Bool.{cond}
 use Prim.Native.Nat.{ℕ, _+_, _-_, _/_, _%_}
 use lib.Dec.{eqb}

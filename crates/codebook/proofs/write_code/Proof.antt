@@ -14,7 +14,10 @@ returns-2 c = refused-index (c .before .before .args .index) _ (c .before .if1 .
 returns-3 : tie.Need-returns-3
 returns-3 c =
     let e = c .before .before .before .before in
-    laid (e .before .args .index) (e .before .args .out .now) _ (e .if1 .left) (omega arith) (c .before .copy-code .ensures)
+    laid (e .before .args .index) (e .before .args .out .now) _ (e .if1 .left) (omega arith)
+    (c .before .copy-code .ensures)
 
 pub write-code-spec : {M : Type 1} → statement M
-write-code-spec = tie.close (tie.spec returns returns-2 (λ c κs. (omega arith, omega arith)) (λ c. omega arith) returns-3)
+write-code-spec =
+    tie.close
+    (tie.spec returns returns-2 (λ c κs. (omega arith, omega arith)) (λ c. omega arith) returns-3)

@@ -26,7 +26,12 @@ returns : tie.Need-returns
 returns c =
     let third = c .before in
     let second = third .before in
-    simp (second .before .delay-of .ensures, second .delay-after .ensures, third .delay-of2 .ensures, c .delay-after2 .ensures)
+    simp (
+      second .before .delay-of .ensures,
+      second .delay-after .ensures,
+      third .delay-of2 .ensures,
+      c .delay-after2 .ensures,
+    )
 
 pub delays-meant-spec : {M : Type 1} → statement M
 delays-meant-spec =

@@ -9,7 +9,7 @@ use Rattle.delays.proofs.rank_in.Tie as tie
 returns : tie.Need-returns
 returns c = between _ _ _ _ (c .if1 .taken)
 
--- the rank is no more than twelfths
+-- the rank fits sixteen bits
 small : (c : tie.Else1)
     → let x = c .before .args in x .first + (x .delay - x .from) / x .step ≤ 1256
 small c =
@@ -22,4 +22,5 @@ returns-2 c = on-step _ _ _ _ (c .if1 .left)
 pub rank-in-spec : {M : Type 1} → statement M
 rank-in-spec =
     tie.close
-    (tie.spec (λ c. omega arith) (λ c. omega arith) returns (λ c. omega arith) (λ c. omega (arith, small c)) (λ c. omega (arith, small c)) returns-2)
+    (tie.spec (λ c. omega arith) (λ c. omega arith) returns (λ c. omega arith) (λ c. omega (arith, small c))
+    (λ c. omega (arith, small c)) returns-2)
