@@ -1,5 +1,3 @@
 pub mod Codes
-pub mod Sixteen
-pub mod Drawing
 pub mod Laws
 pub mod Determined

@@ -2,7 +2,7 @@
 -- Assumes nothing.
 use mathlib.Core.Path.{_≡_, _∙_, sym, ap, subst}
 use mathlib.Core.Bool.{true}
-use mathlib.Core.List.{List, [], _∷_}
+use mathlib.Core.List.{[], _∷_}
 use Prim.Native.Nat.{ℕ, _+_, _-_, _*_, _<_, _≤_}
 use native.Mathlib.Omega.{arith}
 use native.Mathlib.Decide.{decLe}
@@ -17,30 +17,6 @@ use Rattle.delays.specs.declared.Coded.{Coded}
 use Rattle.delays.specs.declared.Coded.the-variants.{Codes, NotListed, OutsideWindow}
 use Rattle.delays.proofs.Table.{twelfths-low, twelfths-high, twelfths-rise, rank-twelfths, twelfths-rank}
 use Rattle.delays.proofs.Table.{rank-byte, byte-below, rank-below, byte-rank}
-
--- the window is 64 ranks of the 256, and the rank before lies in it
-pub base-high : (rank : ℕ) → baseOf rank ≤ 192
-base-high rank = omega arith
-
--- the window does not start above the rank before
-pub base-low : (rank : ℕ) → baseOf rank ≤ rank
-base-low rank = omega arith
-
--- and does not end below it
-pub base-near : (rank : ℕ) → rank < 256 → rank - baseOf rank ≤ 63
-base-near rank h = omega arith
-
--- up to rank 31 it is the first 64 ranks, from 223 on the last, and otherwise it starts 31 ranks below
-pub base-start : (rank : ℕ) → rank ≤ 31 → baseOf rank ≡ 0
-base-start rank h = omega arith
-
--- between the two ends it starts 31 ranks below
-pub base-between : (rank : ℕ) → 31 ≤ rank → rank ≤ 223 → baseOf rank + 31 ≡ rank
-base-between rank h l = omega arith
-
--- from rank 223 on it is the last 64 ranks
-pub base-end : (rank : ℕ) → 223 ≤ rank → baseOf rank ≡ 192
-base-end rank h = omega arith
 
 -- a six-bit code leads to one of the 256 ranks
 pub after-below : (rank step : ℕ) → step < 64 → afterOf rank step < 256

@@ -3,7 +3,7 @@
 -- Assumes nothing.
 use mathlib.Core.Path.{_≡_, _∙_, sym, refl, ap}
 use mathlib.Core.Bool.{Bool, true, false}
-use mathlib.Core.List.{List, [], _∷_}
+use mathlib.Core.List.{List}
 use Prim.Native.Nat.{ℕ, _+_, _-_, _<_, _≤_}
 use native.Mathlib.Omega.{arith}
 use lib.Dec.{leb, ltb}
@@ -13,10 +13,10 @@ use Rattle.laws.specs.Tabulate.{tabulate}
 use Rattle.laws.proofs.Tabulate.{getD-tabulate}
 use Rattle.delays.specs.Table.{delays, bytes, twelfthsOf, printedByte, rankOf, rankWith}
 use Rattle.laws.specs.Unless.{unless}
-use Rattle.delays.specs.Codes.{baseOf, meantBy, listed, inWindow, pairOf, codedOf}
-use Rattle.delays.specs.Steps.{meantPair, codedPair, bothInside}
+use Rattle.delays.specs.Codes.{baseOf, afterOf, fourMeant, listed, inWindow, pairOf, codedOf}
+use Rattle.delays.specs.Steps.{delaysMeant, codedPair, bothInside}
 use Rattle.delays.proofs.Table.{rank-below, byte-below}
-use Rattle.delays.specs.declared.Meant.the-variants.{Delays, TooLarge}
+use Rattle.delays.specs.declared.Meant.the-variants.{TooLarge}
 use Rattle.delays.specs.declared.Coded.{Coded}
 use Rattle.delays.specs.declared.Coded.the-variants.{Codes, NotListed, OutsideWindow}
 use Rattle.delays.specs.declared.Pair.{Pair}
@@ -36,55 +36,38 @@ module _ {ranks : List ℕ} (t : ranks ≡ tabulate rankOf 256) (a : ℕ) (h : a
   pub rank-read-below : getD ranks a 0 < 256
   rank-read-below = rw rank-read (rank-below a (omega arith))
 
-  -- the two delays of a pair, from both tables and the base
-  pub pair-meant : {table : List ℕ} {low : ℕ} (b : ℕ) → table ≡ delays → low ≡ baseOf (getD ranks a 0)
-      → getD table (getD ranks a 0) 0 ∷ getD table (low + b) 0 ∷ [] ≡ meantPair a b
+  -- its delay, from both tables
+  pub first-meant : {table : List ℕ} → table ≡ delays → getD table (getD ranks a 0) 0 ≡ twelfthsOf (rankOf a)
   unfolding twelfthsOf
-  pair-meant b d e = rw (e, d, rank-read)
+  first-meant d = rw (d, rank-read)
+
+  -- the delay of a code after it, from both tables and the base
+  pub next-meant : {table : List ℕ} {low : ℕ} (b : ℕ) → table ≡ delays → low ≡ baseOf (getD ranks a 0)
+      → getD table (low + b) 0 ≡ twelfthsOf (afterOf (rankOf a) b)
+  unfolding twelfthsOf
+  next-meant b d e = rw (e, d, rank-read)
 
 -- four codes: each that is too large is told by its subframe, past those that are not
-module _ (codes : List ℕ) where
+module _ (a b c d : ℕ) where
   -- the code of subframe 1 has more than eight bits
-  pub first-large : 255 < getD codes 0 0 → TooLarge 1 ≡ meantBy codes
-  unfolding meantBy
-  first-large h = rw (lt-leb (getD codes 0 0) 255 h)
+  pub first-large : 255 < a → TooLarge 1 ≡ fourMeant a b c d
+  first-large h = rw (lt-leb a 255 h)
 
-  module _ (first : getD codes 0 0 ≤ 255) where
-    pub second-large : 63 < getD codes 1 0 → TooLarge 2 ≡ meantBy codes
-    unfolding meantBy
-    second-large h = rw (le-leb (getD codes 0 0) 255 first, lt-leb (getD codes 1 0) 63 h)
+  module _ (first : a ≤ 255) where
+    pub second-large : 63 < b → TooLarge 2 ≡ fourMeant a b c d
+    second-large h = rw (le-leb a 255 first, lt-leb b 63 h)
 
-    module _ (second : getD codes 1 0 ≤ 63) where
-      pub third-large : 255 < getD codes 2 0 → TooLarge 3 ≡ meantBy codes
-      unfolding meantBy
-      third-large h =
-          rw (le-leb (getD codes 0 0) 255 first, le-leb (getD codes 1 0) 63 second, lt-leb (getD codes 2 0) 255 h)
+    module _ (second : b ≤ 63) where
+      pub third-large : 255 < c → TooLarge 3 ≡ fourMeant a b c d
+      third-large h = rw (le-leb a 255 first, le-leb b 63 second, lt-leb c 255 h)
 
-      module _ (third : getD codes 2 0 ≤ 255) where
-        pub fourth-large : 63 < getD codes 3 0 → TooLarge 4 ≡ meantBy codes
-        unfolding meantBy
-        fourth-large h =
-            rw (
-              le-leb (getD codes 0 0) 255 first,
-              le-leb (getD codes 1 0) 63 second,
-              le-leb (getD codes 2 0) 255 third,
-              lt-leb (getD codes 3 0) 63 h,
-            )
+      module _ (third : c ≤ 255) where
+        pub fourth-large : 63 < d → TooLarge 4 ≡ fourMeant a b c d
+        fourth-large h = rw (le-leb a 255 first, le-leb b 63 second, le-leb c 255 third, lt-leb d 63 h)
 
-        -- and where none is, the delays of two pairs are those of the four subframes
-        pub four-meant : {p q : List ℕ} → getD codes 3 0 ≤ 63
-            → p ≡ meantPair (getD codes 0 0) (getD codes 1 0) → q ≡ meantPair (getD codes 2 0) (getD codes 3 0)
-            → Delays (getD p 0 0) (getD p 1 0) (getD q 0 0) (getD q 1 0) ≡ meantBy codes
-        unfolding meantBy
-        four-meant fourth e f =
-            rw (
-              e,
-              f,
-              le-leb (getD codes 0 0) 255 first,
-              le-leb (getD codes 1 0) 63 second,
-              le-leb (getD codes 2 0) 255 third,
-              le-leb (getD codes 3 0) 63 fourth,
-            )
+        -- and where none is, the delays are meant
+        pub none-large : d ≤ 63 → delaysMeant a b c d ≡ fourMeant a b c d
+        none-large h = rw (le-leb a 255 first, le-leb b 63 second, le-leb c 255 third, le-leb d 63 h)
 
 -- delays of a and b twelfths, which have the ranks r and s
 module _ (a b : ℕ) {r : ℕ} (first : r ≡ rankWith a) where

@@ -1,34 +1,20 @@
 // The adaptive code's delays: 256 of them, known by their rank, each with its twelfths of a sample and its printed byte
 // (3.5.4), and the window of 64 ranks in which subframes 2 and 4 code theirs (3.5.5).
-// A table is taken once in a call, by one of the three functions that answer a table, and lent on.
+// A table is taken once in a call and lent on.
 ghost use mathlib.Core.Path.{_≡_};
-ghost use Prim.Native.Nat.{_≤_};
-ghost use Rattle.delays.specs.Table.{delays, bytes, rankOf, rankWith};
-ghost use Rattle.delays.specs.Codes.{baseOf, meantBy, codedOf};
-ghost use Rattle.delays.specs.Steps.{meantPair, codedPair, bothInside};
+ghost use Prim.Native.Nat.{_-_, _≤_};
+ghost use Rattle.delays.specs.Table.{delays, bytes, twelfthsOf, rankOf, rankWith};
+ghost use Rattle.delays.specs.Codes.{baseOf, afterOf, fourMeant, meantBy, codedOf};
+ghost use Rattle.delays.specs.Steps.{delaysMeant, rankIn, codedPair, bothInside};
 ghost use Rattle.laws.specs.Tabulate.{tabulate};
 
 mod tables;
-
-// The twelfths of every rank, in their order.
-fn twelfths_by_rank() -> [u16; 256]
-    ensures { λ r. ⌜ r ≡ delays ⌝ }
-{
-    tables::TWELFTHS
-}
 
 // The printed byte of every rank, in their order.
 fn bytes_by_rank() -> [u8; 256]
     ensures { λ r. ⌜ r ≡ bytes ⌝ }
 {
     tables::BYTES
-}
-
-// The rank of every byte, in their order: the inverse.
-fn ranks_by_byte() -> [u8; 256]
-    ensures { λ r. ⌜ r ≡ tabulate rankOf 256 ⌝ }
-{
-    tables::RANKS
 }
 
 // The lowest rank of the window after a rank.
@@ -50,40 +36,67 @@ pub enum Meant {
     TooLarge(usize),
 }
 
-// The two delays in twelfths that the codes of subframes 1 and 2, or 3 and 4, mean.
-fn meant_pair(ranks: &[u8; 256], table: &[u16; 256], first: u16, second: u16) -> [u16; 2]
-    requires { ⌜ now ranks ≡ tabulate rankOf 256 ⌝ }
-    requires { ⌜ now table ≡ delays ⌝ }
-    requires { ⌜ (first ≤ 255) × (second ≤ 63) ⌝ }
-    ensures { λ r. ⌜ r ≡ meantPair first second ⌝ }
-{
-    let rank = ranks[first as usize];
-    let low = base(rank as u16);
-    let next = low + second;
-    [table[rank as usize], table[next as usize]]
-}
-
 // The four delays in twelfths that four codes mean, or the refusal, subframe by subframe.
 pub fn meaning(codes: [u16; 4]) -> Meant
     ensures { λ r. ⌜ r ≡ meantBy codes ⌝ }
 {
-    if 255 < codes[0] {
+    four_meant(codes[0], codes[1], codes[2], codes[3])
+}
+
+// The same of the four codes one by one.
+fn four_meant(first: u16, second: u16, third: u16, fourth: u16) -> Meant
+    ensures { λ r. ⌜ r ≡ fourMeant first second third fourth ⌝ }
+{
+    if 255 < first {
         return Meant::TooLarge(1);
     }
-    if 63 < codes[1] {
+    if 63 < second {
         return Meant::TooLarge(2);
     }
-    if 255 < codes[2] {
+    if 255 < third {
         return Meant::TooLarge(3);
     }
-    if 63 < codes[3] {
+    if 63 < fourth {
         return Meant::TooLarge(4);
     }
-    let ranks = ranks_by_byte();
-    let table = twelfths_by_rank();
-    let early = meant_pair(&ranks, &table, codes[0], codes[1]);
-    let late = meant_pair(&ranks, &table, codes[2], codes[3]);
-    Meant::Delays(early[0], early[1], late[0], late[1])
+    delays_meant(first, second, third, fourth)
+}
+
+// The four delays that codes within their bits mean.
+fn delays_meant(first: u16, second: u16, third: u16, fourth: u16) -> Meant
+    requires { ⌜ (first ≤ 255) × (second ≤ 63) ⌝ }
+    requires { ⌜ (third ≤ 255) × (fourth ≤ 63) ⌝ }
+    ensures { λ r. ⌜ r ≡ delaysMeant first second third fourth ⌝ }
+{
+    let ranks = &tables::RANKS;
+    let table = &tables::TWELFTHS;
+    Meant::Delays(
+        delay_of(ranks, table, first),
+        delay_after(ranks, table, first, second),
+        delay_of(ranks, table, third),
+        delay_after(ranks, table, third, fourth),
+    )
+}
+
+// The delay in twelfths that a code of subframe 1 or 3 means.
+fn delay_of(ranks: &[u8; 256], table: &[u16; 256], code: u16) -> u16
+    requires { ⌜ (now ranks ≡ tabulate rankOf 256) × (now table ≡ delays) ⌝ }
+    requires { ⌜ code ≤ 255 ⌝ }
+    ensures { λ r. ⌜ r ≡ twelfthsOf (rankOf code) ⌝ }
+{
+    let rank = ranks[code as usize];
+    table[rank as usize]
+}
+
+// The delay in twelfths that a code of subframe 2 or 4 means after the code before it.
+fn delay_after(ranks: &[u8; 256], table: &[u16; 256], code: u16, step: u16) -> u16
+    requires { ⌜ (now ranks ≡ tabulate rankOf 256) × (now table ≡ delays) ⌝ }
+    requires { ⌜ (code ≤ 255) × (step ≤ 63) ⌝ }
+    ensures { λ r. ⌜ r ≡ twelfthsOf (afterOf (rankOf code) step) ⌝ }
+{
+    let rank = ranks[code as usize];
+    let next = base(rank as u16) + step;
+    table[next as usize]
 }
 
 // The codes of four delays, or the first refusal, with its subframe.
@@ -110,30 +123,32 @@ fn rank_with(delay: u32) -> u16
         return 256;
     }
     if delay < 312 {
-        if delay % 4 == 0 {
-            return ((delay - 240) / 4) as u16;
-        }
-        return 256;
+        return rank_in(delay, 240, 4, 0);
     }
     if delay < 408 {
-        if delay % 3 == 0 {
-            return (18 + (delay - 312) / 3) as u16;
-        }
-        return 256;
+        return rank_in(delay, 312, 3, 18);
     }
     if delay < 960 {
-        if delay % 4 == 0 {
-            return (50 + (delay - 408) / 4) as u16;
-        }
-        return 256;
+        return rank_in(delay, 408, 4, 50);
     }
     if delay < 1776 {
-        if delay % 12 == 0 {
-            return (188 + (delay - 960) / 12) as u16;
-        }
-        return 256;
+        return rank_in(delay, 960, 12, 188);
     }
     256
+}
+
+// The rank of a delay in the stretch that starts at a delay and a rank and goes on by a step, or 256 if it is between
+// two steps.
+fn rank_in(delay: u32, from: u32, step: u32, first: u32) -> u16
+    requires { ⌜ (from ≤ delay) × (delay - from ≤ 1000) ⌝ }
+    requires { ⌜ (1 ≤ step) × (first ≤ 256) ⌝ }
+    ensures { λ r. ⌜ r ≡ rankIn from step first delay ⌝ }
+{
+    let past = delay - from;
+    if past % step != 0 {
+        return 256;
+    }
+    (first + past / step) as u16
 }
 
 // Two delays in twelfths, of subframes 1 and 2 or of 3 and 4: whether each is in the list, then whether the second is

@@ -1,23 +1,22 @@
 -- What the definitions of specs/ mean, for those who call.
 -- Assumes nothing.
-use mathlib.Core.Path.{_≡_, sym, refl, ap, subst}
+use mathlib.Core.Path.{_≡_, sym, refl, subst}
 use mathlib.Core.Bool.{Bool, true, false, cond}
 use mathlib.Core.List.{List, [], _∷_}
 use Prim.Native.Nat.{ℕ, zero, suc, _-_, _<_, _≤_}
 use native.Mathlib.Omega.{arith}
 use native.Mathlib.Decide.{decLe}
 use lib.Dec.{T, leb, eqb, leb→le, le→leb, eqb→eq}
-use lib.IntN.{ℤ, pos, negℤ, natAbs}
-use lib.Signed.{leZ, _≤ℤ_, leZ-yes}
+use lib.IntN.{ℤ, pos, negℤ}
 use lib.ListN.{length, getD}
-use Rattle.laws.specs.Table.{both, every}
-use Rattle.laws.proofs.Table.{both-left, both-right, at}
+use Rattle.laws.specs.Table.{every}
+use Rattle.laws.proofs.Table.{at}
 use Rattle.laws.proofs.Every.{every-of}
 use Rattle.laws.proofs.Signed.{same, same→eq}
 use borrow.Author.Tests.{le-leb, lt-leb}
 use Rattle.gains.specs.declared.Gain.the-variants.{Value, TooLarge}
-use Rattle.gains.specs.Gains.{gainOf, cgOf, pgOf, refusalOf}
-use Rattle.gains.specs.Tables.{plus, minus, cgTable, pgTable}
+use Rattle.gains.specs.Gains.{gainOf}
+use Rattle.gains.specs.Tables.{cgTable, pgTable}
 use Rattle.gains.specs.Nearest.{apart, apartAt, nearestOf, Nearest}
 
 module _ (x : ℤ) where
@@ -111,14 +110,6 @@ module _ (table : List ℤ) (i : ℕ) where
   unfolding gainOf
   gain-too-large h = rw (lt-leb i 31 h)
 
-  -- which is refusal 2, and no index to 31 is refused
-  pub number-too-large : 31 < i → refusalOf (gainOf table i) ≡ 2
-  number-too-large h = ap refusalOf (gain-too-large h)
-
-  -- an index to 31 has refusal number 0
-  pub number-none : i ≤ 31 → refusalOf (gainOf table i) ≡ 0
-  number-none h = ap refusalOf (gain-value h)
-
   -- a gain that is answered is the entry of an index to 31
   pub gain-given : (v : ℤ) → gainOf table i ≡ Value v → (i ≤ 31) × (v ≡ getD table i (pos 0))
   gain-given v e = go (decLe i 31)
@@ -127,43 +118,7 @@ module _ (table : List ℤ) (i : ℕ) where
       go (yes h) = let g = gain-value h in (h, cc)
       go (no h) = let g = gain-too-large (omega arith) in let z : _≡_ {A = ℕ} 0 1 = cc in absurd (omega arith)
 
--- v is from low to high, and its size is at most size
-pub record Ranged (low high : ℤ) (size : ℕ) (v : ℤ) : Type 0 where
-  pub above : low ≤ℤ v
-  pub below : v ≤ℤ high
-  pub small : natAbs v ≤ size
-
-module _ (low high : ℤ) (size : ℕ) where
-  -- the same as a test
-  abbrev inRange : ℕ → ℤ → Bool
-  inRange i v = both (leZ low v) (both (leZ v high) (leb (natAbs v) size))
-
-  -- what the test says
-  ranged : (i : ℕ) (v : ℤ) → T (inRange i v) → Ranged low high size v
-  ranged i v t =
-      let a = leZ low v in
-      let b = leZ v high in
-      let c = leb (natAbs v) size in
-      let rest = both-right a (both b c) t in
-      record {
-        above = leZ-yes (both-left a (both b c) t);
-        below = leZ-yes (both-left b c rest);
-        small = leb→le (natAbs v) size (both-right b c rest);
-      }
-
-  -- a table over which it passes has only such entries
-  all-ranged : (table : List ℤ) → T (every inRange 0 table) → length table ≡ 32 → (i : ℕ) → i ≤ 31
-      → Ranged low high size (getD table i (pos 0))
-  all-ranged table t l i h = ranged i (getD table i (pos 0)) (at (pos 0) inRange table t i (omega arith))
-
-  -- and answers only such gains
-  given-ranged : (table : List ℤ) → T (every inRange 0 table) → length table ≡ 32 → (i : ℕ) (v : ℤ)
-      → gainOf table i ≡ Value v → Ranged low high size v
-  given-ranged table t l i v e =
-      let g = gain-given table i v e in
-      subst (Ranged low high size) (sym (g .1)) (all-ranged table t l i (g .0))
-
--- each table has 32 entries
+-- CG has 32 entries
 pub cg-length : length cgTable ≡ 32
 unfolding cgTable
 cg-length = refl
@@ -172,32 +127,6 @@ cg-length = refl
 pub pg-length : length pgTable ≡ 32
 unfolding pgTable
 pg-length = refl
-
--- the one test over each table
-cg-test : T (every (inRange (minus 1330) (plus 1330) 1330) 0 cgTable)
-unfolding cgTable
-cg-test = tt
-
--- the test over PG
-pg-test : T (every (inRange (minus 993) (plus 1991) 1991) 0 pgTable)
-unfolding pgTable
-pg-test = tt
-
--- every CG entry is from -1330 to 1330, and every PG entry from -993 to 1991
-pub cg-range : (i : ℕ) → i ≤ 31 → Ranged (minus 1330) (plus 1330) 1330 (getD cgTable i (pos 0))
-cg-range = all-ranged _ _ _ cgTable cg-test cg-length
-
--- every PG entry is from -993 to 1991
-pub pg-range : (i : ℕ) → i ≤ 31 → Ranged (minus 993) (plus 1991) 1991 (getD pgTable i (pos 0))
-pg-range = all-ranged _ _ _ pgTable pg-test pg-length
-
--- and so is every gain that is answered
-pub cg-value-range : (i : ℕ) (v : ℤ) → cgOf i ≡ Value v → Ranged (minus 1330) (plus 1330) 1330 v
-cg-value-range = given-ranged _ _ _ cgTable cg-test cg-length
-
--- every PG that is answered is from -993 to 1991
-pub pg-value-range : (i : ℕ) (v : ℤ) → pgOf i ≡ Value v → Ranged (minus 993) (plus 1991) 1991 v
-pg-value-range = given-ranged _ _ _ pgTable pg-test pg-length
 
 -- CG entry i is the negative of entry 31 - i
 abbrev mirrored : ℕ → ℤ → Bool
@@ -234,18 +163,10 @@ cg-back i h = eqb→eq _ _ (at (pos 0) (returning cgTable) cgTable cg-back-test 
 pub pg-back : (i : ℕ) → i ≤ 31 → nearestOf pgTable (getD pgTable i (pos 0)) ≡ i
 pg-back i h = eqb→eq _ _ (at (pos 0) (returning pgTable) pgTable pg-back-test i (omega (arith, pg-length)))
 
--- the answer is nearest in each table, and an index that its field holds
+-- the answer is nearest in CG
 pub cg-nearest : (x : ℤ) → Nearest cgTable x (nearestOf cgTable x)
 cg-nearest x = nearest-is x cgTable (omega (arith, cg-length))
 
--- the answer is nearest in PG
+-- and in PG
 pub pg-nearest : (x : ℤ) → Nearest pgTable x (nearestOf pgTable x)
 pg-nearest x = nearest-is x pgTable (omega (arith, pg-length))
-
--- it is one of the 32 indices of CG
-pub cg-nearest-below : (x : ℤ) → nearestOf cgTable x < 32
-cg-nearest-below x = omega (arith, cg-nearest x .within, cg-length)
-
--- and of PG
-pub pg-nearest-below : (x : ℤ) → nearestOf pgTable x < 32
-pg-nearest-below x = omega (arith, pg-nearest x .within, pg-length)

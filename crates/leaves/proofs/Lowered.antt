@@ -10,7 +10,7 @@ use mir.Syntax.{w32, w64}
 use mir.Val.{Fits, SFits, toZ}
 use mir.Facts.{toZ-ofZ, toZ-pos, sfits-widen}
 use Rattle.laws.proofs.Held.{held}
-use Rattle.codebook.proofs.Sixteen.{sub-over, sub-under}
+use Rattle.draws.proofs.Sixteen.{sub-over, sub-under}
 
 -- the difference goes into 32 bits
 lowered-fits : (n : ℕ) → n < 4294967296 → SFits w32 (pos n -ℤ pos 2147483648)

@@ -2,8 +2,8 @@
 use crate::case;
 use crate::gain;
 use crate::number;
-use codebook::Generator;
 use codebook::Written;
+use draws::Generator;
 use std::num::wrapping_add_u16;
 
 // An index and the length of a buffer that holds 1 everywhere before: the refusal and the buffer's elements as one

@@ -11,7 +11,7 @@ pub fn number(case: &[u8]) -> u64 {
     let hz = present.hz;
     let first = match verdict {
         Verdict::TooLarge(field) => number::refused(2, (field % 65536) as u16),
-        Verdict::Within => (lsp::order_mark(hz) % 65536) as u64,
+        Verdict::Within => lsp::order_mark(hz) as u64,
     };
     as_one(lsp::averages(previous, hz), first)
 }

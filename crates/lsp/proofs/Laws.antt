@@ -1,20 +1,17 @@
 -- What the definitions of specs/ say, for whoever cites the contracts: the table, the order mark, the averages.
 -- Assumes nothing.
-use mathlib.Core.Path.{_≡_, _∙_, sym, refl, ap, subst}
-use mathlib.Core.Bool.{Bool, true, cond}
+use mathlib.Core.Path.{_≡_, _∙_, refl, ap}
 use mathlib.Core.List.{List, []}
-use Prim.Native.Nat.{ℕ, _+_, _*_, _-_, _^_, _<_, _≤_, min, max}
+use Prim.Native.Nat.{ℕ, _+_, _*_, _-_, _^_, _<_, _≤_}
 use native.Mathlib.Omega.{arith}
-use native.Mathlib.Nat.{min-le-left, min-le-right, le-max-left, le-max-right}
-use native.Mathlib.Decide.{ℕ-discrete, decLt}
-use lib.Dec.{T, leb, ltb, eqb, leb→le, ltb→lt, eqb→eq}
-use lib.ListN.{length, getD, drop}
-use lib.Seq.{getD-take, getD-drop}
+use native.Mathlib.Decide.{decLt}
+use lib.Dec.{eqb, eqb→eq}
+use lib.ListN.{length, getD}
 use borrow.Author.Tests.{ltb-true, ltb-false, lt-ltb, le-ltb, leb-true, leb-false, le-leb, lt-leb, eq-eqb, ne-eqb}
-use Rattle.laws.specs.Table.{both, every}
+use Rattle.laws.specs.Table.{every}
 use Rattle.laws.specs.Tabulate.{tabulate}
-use Rattle.laws.proofs.Table.{at, both-left, both-right}
-use Rattle.laws.proofs.Tabulate.{length-tabulate, getD-tabulate}
+use Rattle.laws.proofs.Table.{at}
+use Rattle.laws.proofs.Tabulate.{getD-tabulate}
 use Rattle.laws.proofs.Cases.{of-four}
 use Rattle.laws.proofs.Lowest.{lowest-at, lowest-none, lowest-zero, lowest-found}
 use Rattle.lsp.specs.Table.{bits, hzTable, column, hzOf, lsp, overIn, tooLarge, hzAt, hertzOf}
@@ -60,36 +57,12 @@ mark-most hz = go (decLt 0 (markOf hz))
 
 -- ---- the averages
 
--- an average lies between the two values
-pub average-least : (n a b : ℕ) → 1 ≤ n → n ≤ 4 → 8 * min a b ≤ averageOf n a b
-average-least n a b p q =
-    let l : min a b ≤ a = min-le-left a b in
-    let r : min a b ≤ b = min-le-right a b in
-    of-four (λ m. 8 * min a b ≤ averageOf m a b) n p q (omega arith) (omega arith) (omega arith) (omega arith)
-
--- no average is above eight times the larger value
-pub average-most : (n a b : ℕ) → 1 ≤ n → n ≤ 4 → averageOf n a b ≤ 8 * max a b
-average-most n a b p q =
-    let l : a ≤ max a b = le-max-left a b in
-    let r : b ≤ max a b = le-max-right a b in
-    of-four (λ m. averageOf m a b ≤ 8 * max a b) n p q (omega arith) (omega arith) (omega arith) (omega arith)
-
 -- of a value with itself it is eight times that
 pub average-same : (n a : ℕ) → 1 ≤ n → n ≤ 4 → averageOf n a a ≡ 8 * a
 average-same n a p q =
     of-four (λ m. averageOf m a a ≡ 8 * a) n p q (omega arith) (omega arith) (omega arith) (omega arith)
 
--- it is no less where both values are no less
-pub average-rises : (n a b c d : ℕ) → 1 ≤ n → n ≤ 4 → a ≤ c → b ≤ d → averageOf n a b ≤ averageOf n c d
-average-rises n a b c d p q h g =
-    of-four (λ m. averageOf m a b ≤ averageOf m c d) n p q (omega arith) (omega arith) (omega arith) (omega arith)
-
 module _ (previous present : List ℕ) where
-  -- there are forty averages
-  pub averages-long : length (averagesOf previous present) ≡ 40
-  unfolding averagesOf
-  averages-long = length-tabulate (eighths previous present) 40
-
   -- at place 10(n-1) + (j-1) stands LSP j in subframe n
   pub averages-at : (n j : ℕ) → 1 ≤ n → n ≤ 4 → 1 ≤ j → j ≤ 10
       → getD (averagesOf previous present) (10 * (n - 1) + (j - 1)) 0 ≡ averageAt previous present n j
@@ -100,23 +73,6 @@ module _ (previous present : List ℕ) where
       ∙ eighths-at previous present (n - 1) (j - 1) (10 * (n - 1) + (j - 1)) (omega arith) refl
       ∙ ap (λ (m : ℕ). averageOf m (lsp previous j) (lsp present j)) e
 
-  -- LSP j of the ten of subframe n
-  pub subframe-at : (n j : ℕ) → 1 ≤ n → n ≤ 4 → 1 ≤ j → j ≤ 10
-      → lsp (subframe n (averagesOf previous present)) j ≡ averageAt previous present n j
-  subframe-at n j a b c d =
-      let l : List ℕ = averagesOf previous present in
-      getD-take 10 (drop (10 * (n - 1)) l) (j - 1) 0 (omega arith) ∙ getD-drop (10 * (n - 1)) l (j - 1) 0
-      ∙ averages-at n j a b c d
-
-  -- where both frames are in order, the averages are in each subframe
-  pub averages-in-order : (n : ℕ) → 1 ≤ n → n ≤ 4 → markOf previous ≡ 0 → markOf present ≡ 0
-      → markOf (subframe n (averagesOf previous present)) ≡ 0
-  averages-in-order n a b p q =
-      in-order-mark _
-      (λ j c d.
-      rw (subframe-at n j a b c (omega arith), subframe-at n (j + 1) a b (omega arith) (omega arith))
-      (average-rises n _ _ _ _ a b (mark-in-order previous p j c d) (mark-in-order present q j c d)))
-
 -- where the previous values are the present ones, each average is eight times the value
 pub averages-same : (hz : List ℕ) (n j : ℕ) → 1 ≤ n → n ≤ 4 → 1 ≤ j → j ≤ 10
     → getD (averagesOf hz hz) (10 * (n - 1) + (j - 1)) 0 ≡ 8 * lsp hz j
@@ -124,41 +80,11 @@ averages-same hz n j a b c d = averages-at hz hz n j a b c d ∙ average-same n 
 
 -- ---- the table
 
--- every entry is from 100 to 3,830 Hz
-abbrev within : ℕ → ℕ → Bool
-within k x = both (leb 100 x) (leb x 3830)
-
--- an entry with a next one is below it
-abbrev below-next : List ℕ → ℕ → ℕ → Bool
-below-next c k x = cond (ltb (k + 1) (length c)) (ltb x (getD c (k + 1) 0)) true
-
--- what that test says
-next-above : (c : List ℕ) (k : ℕ) → T (below-next c k (getD c k 0)) → k + 1 < length c → getD c k 0 < getD c (k + 1) 0
-next-above c k t h =
-    let e : ltb (k + 1) (length c) ≡ true = lt-ltb (k + 1) (length c) h in
-    ltb→lt _ _ (rw e at t)
-
 module _ (j : ℕ) (a : 1 ≤ j) (b : j ≤ 10) where
   -- a column has an entry for each index of its bits
   pub column-long : length (column j) ≡ 2 ^ lsp bits j
   unfolding hzTable
   column-long = eqb→eq _ _ (at [] (λ k c. eqb (length c) (2 ^ getD bits k 0)) hzTable tt (j - 1) (omega arith))
-
-  -- the entries rise
-  pub rises : (k : ℕ) → k + 1 < length (column j) → getD (column j) k 0 < getD (column j) (k + 1) 0
-  unfolding hzTable
-  rises k h =
-      let t = at [] (λ i c. every (below-next c) 0 c) hzTable tt (j - 1) (omega arith) in
-      next-above (column j) k (at 0 (below-next (column j)) (column j) t k (omega arith)) h
-
-  -- an index that fits has an entry, from 100 to 3,830 Hz
-  pub hz-within : (index : ℕ) → index < 2 ^ lsp bits j → (100 ≤ hzOf j index) × (hzOf j index ≤ 3830)
-  unfolding hzTable
-  hz-within index h =
-      let t = at [] (λ i c. every within 0 c) hzTable tt (j - 1) (omega arith) in
-      let u = at 0 within (column j) t index (subst (λ (n : ℕ). index < n) (sym column-long) h) in
-      let x : ℕ = hzOf j index in
-      (leb→le 100 x (both-left (leb 100 x) (leb x 3830) u), leb→le x 3830 (both-right (leb 100 x) (leb x 3830) u))
 
 -- ---- ten indices in Hz
 
@@ -204,22 +130,9 @@ module _ (indices : List ℕ) where
   unfolding hertzOf
   hertz-refused h = rw (ne-eqb (tooLarge indices) 0 (λ z. omega arith))
 
-  -- ten numbers are answered in any case
-  pub hertz-long : length (hertzOf indices .hz) ≡ 10
-  hertz-long = go (ℕ-discrete (tooLarge indices) 0)
-    where
-      go : Dec (tooLarge indices ≡ 0) → length (hertzOf indices .hz) ≡ 10
-      go (yes e) = rw (hertz-given e) (length-tabulate (hzAt indices) 10)
-      go (no e) = rw (hertz-refused (omega arith)) (length-tabulate (λ k. 0) 10)
-
   -- LSP j is the entry of its column at its index
   pub hertz-at : tooLarge indices ≡ 0 → (j : ℕ) → 1 ≤ j → j ≤ 10 → lsp (hertzOf indices .hz) j ≡ hzOf j (lsp indices j)
   hertz-at e j a b =
       let m : j - 1 + 1 ≡ j = omega arith in
       ap (λ (h : Hertz). lsp (h .hz) j) (hertz-given e) ∙ getD-tabulate (hzAt indices) 0 10 (j - 1) (omega arith)
       ∙ ap (λ (n : ℕ). hzOf n (lsp indices n)) m
-
-  -- and from 100 to 3,830 Hz
-  pub hertz-within : tooLarge indices ≡ 0 → (j : ℕ) → 1 ≤ j → j ≤ 10
-      → (100 ≤ lsp (hertzOf indices .hz) j) × (lsp (hertzOf indices .hz) j ≤ 3830)
-  hertz-within e j a b = rw (hertz-at e j a b) (hz-within j a b (lsp indices j) (none-too-large e j a b))

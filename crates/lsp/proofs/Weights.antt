@@ -3,11 +3,16 @@
 use mathlib.Core.Path.{_≡_, _∙_, sym, refl}
 use mathlib.Core.List.{List}
 use mathlib.Core.Logic.{_⊎_, inl, inr}
-use Prim.Native.Nat.{ℕ, _+_, _*_, _/_, _%_, _<_, _≤_}
+use Prim.Native.Nat.{ℕ, _+_, _-_, _*_, _/_, _%_, _<_, _≤_}
 use native.Mathlib.Omega.{arith}
-use native.Mathlib.Nat.{add-sub-cancel}
+use native.Mathlib.Nat.{add-sub-cancel, mul-le-mul}
 use native.Mathlib.Decide.{ℕ-discrete}
+use lib.Dec.{T, leb, leb→le, lit<}
 use lib.ListN.{getD, length, set}
+use mir.Syntax.{w64}
+use mir.Val.{Fits}
+use mir.Facts.{fits-lt, fits-lit}
+use borrow.Author.Needs.{scaled-fits}
 use Rattle.laws.proofs.Placed.{Placed, placed-none, placed-more, placed-as, placed-all}
 use Rattle.lsp.specs.Average.{averageOf, averageAt, averagesOf}
 
@@ -46,16 +51,12 @@ module _ (previous present : List ℕ) where
   four-more i k q (no a) (no b) (no c) (no d) = inl (inl (inl (inl (q .0, omega arith))))
 
   -- one parameter more, with its four averages
-  pub one-averaged : {i : ℕ} {l : List ℕ} → Averaged i l → i < 10
+  pub one-averaged : {i : ℕ} {l : List ℕ} {p q r s : ℕ} → Averaged i l → i < 10
       → let a = getD previous i 0 in
       let b = getD present i 0 in
-      Averaged (i + 1) (set (set (set (set l i (7 * a + b)) (10 + i) (5 * a + 3 * b)) (20 + i) (3 * a + 5 * b)) (30 + i)
-      (a + 7 * b))
-  one-averaged {i} {l} s h =
-      let a : ℕ = getD previous i 0 in
-      let b : ℕ = getD present i 0 in
-      let first : 7 * a + b ≡ averageOf 1 a b = omega arith in
-      let last : a + 7 * b ≡ averageOf 4 a b = omega arith in
+      p ≡ averageOf 1 a b → q ≡ averageOf 2 a b → r ≡ averageOf 3 a b → s ≡ averageOf 4 a b
+      → Averaged (i + 1) (set (set (set (set l i p) (10 + i) q) (20 + i) r) (30 + i) s)
+  one-averaged {i} v h e f g z =
       record {
         upto = omega arith;
         placed =
@@ -63,10 +64,10 @@ module _ (previous present : List ℕ) where
             (placed-more (30 + i) _
             (placed-more (20 + i) _
             (placed-more (10 + i) _
-            (placed-more i _ (s .placed) (omega arith) (first ∙ sym (eighths-at 0 i i h (omega arith))))
-            (omega arith) (sym (eighths-at 1 i (10 + i) h refl)))
-            (omega arith) (sym (eighths-at 2 i (20 + i) h refl)))
-            (omega arith) (last ∙ sym (eighths-at 3 i (30 + i) h refl)))
+            (placed-more i _ (v .placed) (omega arith) (e ∙ sym (eighths-at 0 i i h (omega arith))))
+            (omega arith) (f ∙ sym (eighths-at 1 i (10 + i) h refl)))
+            (omega arith) (g ∙ sym (eighths-at 2 i (20 + i) h refl)))
+            (omega arith) (z ∙ sym (eighths-at 3 i (30 + i) h refl)))
             (λ k q. four-more i k q (ℕ-discrete k i) (ℕ-discrete k (10 + i)) (ℕ-discrete k (20 + i))
             (ℕ-discrete k (30 + i)));
       }
@@ -75,3 +76,42 @@ module _ (previous present : List ℕ) where
   pub all-averaged : {i : ℕ} {l : List ℕ} → Averaged i l → 10 ≤ i → l ≡ averagesOf previous present
   unfolding averagesOf
   all-averaged {i} s h = placed-all (s .placed) (λ k g. (g, omega (arith, s .upto)))
+
+-- an average of two values of sixteen bits fits 32, and so does each part of it
+pub part-small : {w x : ℕ} → w ≤ 7 → x < 65536 → w * x ≤ 458745
+part-small h l = mul-le-mul {m₂ = 65535} h (omega arith)
+
+-- n is one of the four subframes
+pub one-of-four : (n : ℕ) → T (leb 1 n) → T (leb n 4) → (1 ≤ n) × (n ≤ 4)
+one-of-four n a b = (leb→le 1 n a, leb→le n 4 b)
+
+-- a parameter's place among the ten
+module _ {i : ℕ} (h : i < 10) where
+  -- in subframe 1 it is its place among the forty
+  pub first-below : i < 40
+  first-below = omega arith
+
+  -- where it stands in memory, at so many bytes to each
+  pub first-scaled : (bytes : ℕ) → T (leb bytes 8) → Fits w64 (i * bytes)
+  first-scaled bytes b =
+      let m : i * bytes ≤ 9 * 8 = mul-le-mul {n₂ = 9} {m₂ = 8} (omega arith) (leb→le bytes 8 b) in
+      fits-lt {n = 73} (omega arith) (fits-lit tt)
+
+  -- the next one
+  pub next-fits : Fits w64 (i + 1)
+  next-fits = fits-lt {n = 11} (omega arith) (fits-lit tt)
+
+  -- there is one less to come
+  pub one-less : 10 - (i + 1) < 10 - i
+  one-less = omega arith
+
+  -- in a subframe that stands m places on
+  module _ (m : ℕ) (low : T (leb m 30)) where
+    pub place-below : m + i < 40
+    place-below = omega (arith, leb→le m 30 low)
+
+    pub place-fits : Fits w64 (m + i)
+    place-fits = fits-lt place-below (fits-lit tt)
+
+    pub place-scaled : Fits w64 ((m + i) * 4)
+    place-scaled = scaled-fits (m + i) 40 4 place-below (lit< tt)

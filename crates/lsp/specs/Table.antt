@@ -1,9 +1,10 @@
 -- The coding of the ten line spectral parameters (3.7.2), in Hz, and its refusal (document 01, refusal 2).
 use mathlib.Core.Bool.{Bool}
 use mathlib.Core.List.{List, [], _∷_}
-use Prim.Native.Nat.{ℕ, _+_, _-_, _^_}
+use Prim.Native.Nat.{ℕ, _+_, _-_, _/_, _%_, _^_}
 use lib.Dec.{leb, eqb}
-use lib.ListN.{getD}
+use lib.ListN.{length, getD}
+use Rattle.laws.specs.Table.{both, every}
 use Rattle.laws.specs.Lowest.{lowest}
 use Rattle.laws.specs.Tabulate.{tabulate}
 use Rattle.laws.specs.Unless.{unless}
@@ -42,6 +43,14 @@ lsp values j = getD values (j - 1) 0
 -- LSP j in Hz at an index
 abbrev pub hzOf : ℕ → ℕ → ℕ
 hzOf j index = getD (column j) index 0
+
+-- sixteen rows of ten, one after the other: at place i of row k stands entry k of the column of LSP i+1, 0 past its end
+abbrev pub entryPrinted : ℕ → ℕ → Bool
+entryPrinted n x = eqb x (getD (column (n % 10 + 1)) (n / 10) 0)
+
+-- each is as printed
+abbrev pub asPrinted : List ℕ → Bool
+asPrinted rows = both (eqb (length rows) 160) (every entryPrinted 0 rows)
 
 -- the index of LSP j does not fit its bits
 abbrev pub overIn : List ℕ → ℕ → Bool

@@ -1,28 +1,32 @@
 // The ten line spectral parameters of 3.7: an index in Hz, the order mark of ten, and the averages of two frames.
 // LSP j stands at place j - 1 of a list of ten; all values are 16 bits, the averages are whole eighths of a Hz.
 ghost use mathlib.Core.Path.{_≡_};
-ghost use Rattle.lsp.specs.Table.{hertzOf};
+ghost use Prim.Native.Nat.{_≤_};
+ghost use lib.Dec.{T};
+ghost use Rattle.laws.specs.Tabulate.{tabulate};
+ghost use Rattle.lsp.specs.Table.{asPrinted, tooLarge, hzAt, hertzOf};
 ghost use Rattle.lsp.specs.Order.{markOf};
-ghost use Rattle.lsp.specs.Average.{averagesOf};
+ghost use Rattle.lsp.specs.Average.{averageOf, averagesOf};
 
 // The table of 3.7.2 in Hz as printed: a row for each index from 0, LSP 1 to 10 across, 0 where no entry is printed.
-const HZ: [[u16; 10]; 16] = [
-    [100, 210, 420, 620, 1000, 1470, 1800, 2225, 2760, 3190],
-    [170, 235, 460, 660, 1050, 1570, 1880, 2400, 2880, 3270],
-    [225, 265, 500, 720, 1130, 1690, 1960, 2525, 3000, 3350],
-    [250, 295, 540, 795, 1210, 1830, 2100, 2650, 3100, 3420],
-    [280, 325, 585, 880, 1285, 2000, 2300, 2800, 3200, 3490],
-    [340, 360, 640, 970, 1350, 2200, 2480, 2950, 3310, 3590],
-    [420, 400, 705, 1080, 1430, 2400, 2700, 3150, 3430, 3710],
-    [500, 440, 775, 1170, 1510, 2600, 2900, 3350, 3550, 3830],
-    [0, 480, 850, 1270, 1590, 0, 0, 0, 0, 0],
-    [0, 520, 950, 1370, 1670, 0, 0, 0, 0, 0],
-    [0, 560, 1050, 1470, 1750, 0, 0, 0, 0, 0],
-    [0, 610, 1150, 1570, 1850, 0, 0, 0, 0, 0],
-    [0, 670, 1250, 1670, 1950, 0, 0, 0, 0, 0],
-    [0, 740, 1350, 1770, 2050, 0, 0, 0, 0, 0],
-    [0, 810, 1450, 1870, 2150, 0, 0, 0, 0, 0],
-    [0, 880, 1550, 1970, 2250, 0, 0, 0, 0, 0],
+#[rattlefmt::skip]
+const HZ: [u16; 160] = [
+    100, 210, 420, 620, 1000, 1470, 1800, 2225, 2760, 3190,
+    170, 235, 460, 660, 1050, 1570, 1880, 2400, 2880, 3270,
+    225, 265, 500, 720, 1130, 1690, 1960, 2525, 3000, 3350,
+    250, 295, 540, 795, 1210, 1830, 2100, 2650, 3100, 3420,
+    280, 325, 585, 880, 1285, 2000, 2300, 2800, 3200, 3490,
+    340, 360, 640, 970, 1350, 2200, 2480, 2950, 3310, 3590,
+    420, 400, 705, 1080, 1430, 2400, 2700, 3150, 3430, 3710,
+    500, 440, 775, 1170, 1510, 2600, 2900, 3350, 3550, 3830,
+    0, 480, 850, 1270, 1590, 0, 0, 0, 0, 0,
+    0, 520, 950, 1370, 1670, 0, 0, 0, 0, 0,
+    0, 560, 1050, 1470, 1750, 0, 0, 0, 0, 0,
+    0, 610, 1150, 1570, 1850, 0, 0, 0, 0, 0,
+    0, 670, 1250, 1670, 1950, 0, 0, 0, 0, 0,
+    0, 740, 1350, 1770, 2050, 0, 0, 0, 0, 0,
+    0, 810, 1450, 1870, 2150, 0, 0, 0, 0, 0,
+    0, 880, 1550, 1970, 2250, 0, 0, 0, 0, 0,
 ];
 
 // How many bits the index of each LSP has, LSP 1 first.
@@ -44,25 +48,49 @@ pub struct Hertz {
 pub fn in_hertz(indices: [u16; 10]) -> Hertz
     ensures { λ r. ⌜ r ≡ hertzOf indices ⌝ }
 {
-    let table = HZ;
-    let bits = BITS;
-    let mut hz = [0u16; 10];
-    let mut i = 0;
-    while i < 10 {
-        let index = indices[i];
-        if index >> bits[i] != 0 {
-            return Hertz {
-                verdict: Verdict::TooLarge(i + 1),
-                hz: [0u16; 10],
-            };
-        }
-        hz[i] = table[index as usize][i];
-        i += 1;
+    let large = too_large(indices);
+    if large != 0 {
+        return Hertz {
+            verdict: Verdict::TooLarge(large),
+            hz: [0u16; 10],
+        };
     }
+    let hz = looked_up(&HZ, indices);
     Hertz {
         verdict: Verdict::Within,
         hz,
     }
+}
+
+// The lowest LSP whose index does not fit its bits, or 0.
+fn too_large(indices: [u16; 10]) -> usize
+    ensures { λ r. ⌜ r ≡ tooLarge indices ⌝ }
+{
+    let bits = BITS;
+    let mut i = 0;
+    while i < 10 {
+        if indices[i] >> bits[i] != 0 {
+            return i + 1;
+        }
+        i += 1;
+    }
+    0
+}
+
+// The ten indices in Hz, from the table lent, where each fits its bits.
+fn looked_up(table: &[u16; 160], indices: [u16; 10]) -> [u16; 10]
+    requires { ⌜ T (asPrinted (now table)) ⌝ }
+    requires { ⌜ tooLarge indices ≡ 0 ⌝ }
+    ensures { λ r. ⌜ r ≡ tabulate (hzAt indices) 10 ⌝ }
+{
+    let mut hz = [0u16; 10];
+    let mut i = 0;
+    while i < 10 {
+        let row = 10 * indices[i] as usize;
+        hz[i] = table[row + i];
+        i += 1;
+    }
+    hz
 }
 
 // The order mark: the lowest j for which LSP j+1 is below LSP j, or 0.
@@ -86,13 +114,21 @@ pub fn averages(previous: [u16; 10], present: [u16; 10]) -> [u32; 40]
     let mut eighths = [0u32; 40];
     let mut i = 0;
     while i < 10 {
-        let a = previous[i] as u32;
-        let b = present[i] as u32;
-        eighths[i] = 7 * a + b;
-        eighths[10 + i] = 5 * a + 3 * b;
-        eighths[20 + i] = 3 * a + 5 * b;
-        eighths[30 + i] = a + 7 * b;
+        let a = previous[i];
+        let b = present[i];
+        eighths[i] = average(1, a, b);
+        eighths[10 + i] = average(2, a, b);
+        eighths[20 + i] = average(3, a, b);
+        eighths[30 + i] = average(4, a, b);
         i += 1;
     }
     eighths
+}
+
+// The average of two values in subframe n, in eighths.
+fn average(n: u32, previous: u16, present: u16) -> u32
+    requires { ⌜ (1 ≤ n) × (n ≤ 4) ⌝ }
+    ensures { λ r. ⌜ r ≡ averageOf n previous present ⌝ }
+{
+    (9 - 2 * n) * previous as u32 + (2 * n - 1) * present as u32
 }

@@ -253,10 +253,11 @@ module _ (a b c d : ℕ) where
 
   -- the first code that is too large is told
   large-only : {n : ℕ} → FirstTooLarge a b c d n → meantBy codes-given ≡ Meant.TooLarge n
-  large-only (first-large h) = sym (codes.first-large codes-given h)
-  large-only (second-large e h) = sym (codes.second-large codes-given e h)
-  large-only (third-large e f h) = sym (codes.third-large codes-given e f h)
-  large-only (fourth-large e f g h) = sym (codes.fourth-large codes-given e f g h)
+  unfolding meantBy
+  large-only (first-large h) = sym (codes.first-large a b c d h)
+  large-only (second-large e h) = sym (codes.second-large a b c d e h)
+  large-only (third-large e f h) = sym (codes.third-large a b c d e f h)
+  large-only (fourth-large e f g h) = sym (codes.fourth-large a b c d e f g h)
 
   -- codes up to 255 and 63 fit eight and six bits
   fit-of : a ≤ 255 → b ≤ 63 → c ≤ 255 → d ≤ 63 → Fit a b c d

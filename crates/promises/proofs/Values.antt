@@ -17,9 +17,9 @@ use Rattle.lsp.specs.Table.{column, lsp}
 use Rattle.lsp.proofs.Laws.{column-long, mark-in-order, mark-falls}
 use Rattle.codebook.specs.Book.{book}
 use Rattle.codebook.specs.Code.{codeOf}
-use Rattle.codebook.specs.Draw.{drawOf}
+use Rattle.draws.specs.Draw.{drawOf}
 use Rattle.codebook.proofs.Laws.{length-book, element-ternary, length-code, code-ternary, one-of-three, overlap}
-use Rattle.codebook.proofs.Laws.{wrapped-congruent, sum-only, position-range}
+use Rattle.draws.proofs.Laws.{wrapped-congruent, sum-only, position-range}
 use Rattle.values.specs.Outcome.{outcomeOf}
 use Rattle.values.specs.Values.{cgIndex, pgIndex, valuesOf}
 use Rattle.values.specs.declared.State.{State}

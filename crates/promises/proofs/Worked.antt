@@ -12,7 +12,7 @@ use Rattle.lsp.specs.Average.{averagesOf}
 use Rattle.values.specs.Values.{delaysOf}
 use Rattle.lsp.specs.Table.{hzTable, tooLarge, hertzOf}
 use Rattle.lsp.specs.Order.{markOf}
-use Rattle.codebook.specs.Draw.{freshGenerator, wrapped, drawOf}
+use Rattle.draws.specs.Draw.{freshGenerator, wrapped, drawOf}
 use Rattle.frame.specs.Places.{places, seek}
 use Rattle.frame.specs.Parity.{guardedPlace, number, mended}
 use Rattle.frame.specs.Frame.{placeAt, bitAt, packed, indexIn}

@@ -21,8 +21,8 @@ use Rattle.lsp.specs.Table.{column, lsp}
 use Rattle.lsp.specs.Order.{markOf, InOrder}
 use Rattle.codebook.specs.Book.{book}
 use Rattle.codebook.specs.Code.{codeOf}
-use Rattle.codebook.specs.Draw.{positionOf, wrapped, keptAt, drawOf}
-use Rattle.codebook.specs.declared.Generator.{Generator}
+use Rattle.draws.specs.Draw.{positionOf, wrapped, keptAt, drawOf}
+use Rattle.draws.specs.declared.Generator.{Generator}
 use Rattle.values.specs.Values.{cgIndex, pgIndex, pdIndex, presentOf, usedOf, freshState, valuesOf}
 use Rattle.values.specs.declared.State.{State}
 use Rattle.values.specs.declared.Outcome.the-variants.{Heard}

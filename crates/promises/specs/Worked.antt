@@ -17,7 +17,7 @@ use Rattle.delays.specs.Codes.{meantBy}
 use Rattle.lsp.specs.Table.{hertzOf}
 use Rattle.lsp.specs.Order.{markOf}
 use Rattle.lsp.specs.Average.{averagesOf}
-use Rattle.codebook.specs.Draw.{draws, freshGenerator}
+use Rattle.draws.specs.Draw.{draws, freshGenerator}
 use Rattle.frame.specs.Frame.{packed}
 use Rattle.frame.specs.Answers.{readingOf}
 use Rattle.values.specs.Values.{delaysIn, delaysOf}

@@ -2,7 +2,6 @@
 -- Assumes nothing.
 use Prim.Native.Nat.{_-_}
 use native.Mathlib.Omega.{arith}
-use borrow.Author.Needs.{needs}
 use Rattle.leaves.proofs.case.ten.Statement.{statement}
 use Rattle.leaves.proofs.case.ten.Tie as tie
 
@@ -15,6 +14,5 @@ abbrev μ-loop : tie.MeasureT-loop
 pub ten-spec : {M : Type 1} → statement M
 ten-spec =
     tie.close
-    (tie.spec Inv-loop μ-loop (λ c. tt) (search needs) (λ c. omega arith) (λ c κs. tt) (search needs) (search needs)
-    (λ c. omega arith)
-    (λ c. omega arith) (λ c. tt) (λ c. tt))
+    (tie.spec Inv-loop μ-loop (λ c. tt) (λ c. omega arith) (λ c. omega arith) (λ c κs. tt) (λ c. omega arith)
+    (λ c. omega arith) (λ c. omega arith) (λ c. omega arith) (λ c. tt) (λ c. tt))

@@ -1,0 +1,4 @@
+pub mod Sixteen
+pub mod Drawing
+pub mod Laws
+pub mod Determined
