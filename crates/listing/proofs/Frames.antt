@@ -6,14 +6,14 @@ use Prim.Native.Nat.{ℕ, zero, suc, _≤_}
 use lib.ListN.{length}
 use Rattle.values.specs.declared.State.{State}
 use Rattle.blocks.specs.Frames.{framesOf}
-use Rattle.recording.specs.Counted.{countsOf}
-use Rattle.recording.specs.Pass.{frameHeard, startOf, nextOf}
-use Rattle.recording.specs.declared.Counts.{Counts}
-use Rattle.recording.specs.declared.Hearing.{Hearing}
-use Rattle.recording.specs.declared.Pass.{Pass}
-use Rattle.recording.specs.declared.Step.{Step}
-use Rattle.recording.proofs.Passes.{Passing}
-use Rattle.recording.proofs.Through.{none-passed, on-its-way, step-hears, step-further, step-ended, all-counted}
+use Rattle.passes.specs.Counted.{countsOf}
+use Rattle.passes.specs.Pass.{frameHeard, startOf, nextOf}
+use Rattle.passes.specs.declared.Counts.{Counts}
+use Rattle.passes.specs.declared.Hearing.{Hearing}
+use Rattle.passes.specs.declared.Pass.{Pass}
+use Rattle.passes.specs.declared.Step.{Step}
+use Rattle.passes.proofs.Passes.{Passing}
+use Rattle.passes.proofs.Through.{none-passed, on-its-way, step-hears, step-further, step-ended, all-counted}
 use Rattle.text.proofs.Laid.{put-then}
 use Rattle.listing.specs.Lines.{frameLine, lastLine}
 use Rattle.listing.specs.Listing.{linesTo, bodyOf}

@@ -13,8 +13,8 @@ use Rattle.blocks.specs.Refusals.{refusalOf, toldOf}
 use Rattle.blocks.specs.declared.Cause.{Cause}
 use Rattle.blocks.specs.declared.Told.{Told}
 use Rattle.blocks.specs.declared.Walk.{Walk}
-use Rattle.recording.specs.declared.Counts.{Counts}
-use Rattle.recording.specs.declared.Hearing.{Hearing}
+use Rattle.passes.specs.declared.Counts.{Counts}
+use Rattle.passes.specs.declared.Hearing.{Hearing}
 use Rattle.text.specs.Ascii.{ascii}
 use Rattle.text.specs.Decimal.{decimal}
 use Rattle.listing.specs.Lines.{pairLine, headLine, fields, saidOf, frameText, lastLine, placeShown, refusedLine}

@@ -16,8 +16,8 @@ use Rattle.blocks.specs.declared.Ending.{Ending}
 use Rattle.blocks.specs.declared.Ending.the-variants.{Sound, Refused}
 use Rattle.blocks.specs.declared.Walk.{Walk}
 use Rattle.blocks.specs.declared.Walked.{Walked}
-use Rattle.recording.specs.Pass.{begunAt}
-use Rattle.recording.specs.declared.Pass.{Pass}
+use Rattle.passes.specs.Pass.{begunAt}
+use Rattle.passes.specs.declared.Pass.{Pass}
 use Rattle.text.specs.Laid.{laid}
 use Rattle.text.proofs.Laid.{put-then}
 use Rattle.listing.specs.Lines.{headLine, refusedLine}

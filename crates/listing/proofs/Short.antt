@@ -25,12 +25,12 @@ use Rattle.blocks.specs.declared.Ending.{Ending}
 use Rattle.blocks.specs.declared.Ending.the-variants.{Sound, Refused}
 use Rattle.blocks.specs.declared.Walk.{Walk}
 use Rattle.blocks.proofs.Walks.{sound-short}
-use Rattle.recording.specs.Counted.{countsOf}
-use Rattle.recording.specs.Pass.{hearingOf, stateThrough}
-use Rattle.recording.specs.declared.Counts.{Counts}
-use Rattle.recording.proofs.Counting.{repaired-few, breaks-few}
-use Rattle.recording.proofs.Hearings.{heard-there}
-use Rattle.recording.proofs.Passes.{frames-most}
+use Rattle.passes.specs.Counted.{countsOf}
+use Rattle.passes.specs.Pass.{hearingOf, stateThrough}
+use Rattle.passes.specs.declared.Counts.{Counts}
+use Rattle.passes.proofs.Counting.{repaired-few, breaks-few}
+use Rattle.passes.proofs.Hearings.{heard-there}
+use Rattle.passes.proofs.Passes.{frames-most}
 use Rattle.text.specs.Ascii.{ascii}
 use Rattle.text.specs.Decimal.{decimal}
 use Rattle.text.proofs.Decimal.{decimal-most}

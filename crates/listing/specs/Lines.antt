@@ -14,8 +14,8 @@ use Rattle.blocks.specs.declared.Cause.{Cause}
 use Rattle.blocks.specs.declared.Told.{Told}
 use Rattle.blocks.specs.declared.Told.the-variants.{Nothing, Place}
 use Rattle.blocks.specs.declared.Walk.{Walk}
-use Rattle.recording.specs.declared.Counts.{Counts}
-use Rattle.recording.specs.declared.Hearing.{Hearing}
+use Rattle.passes.specs.declared.Counts.{Counts}
+use Rattle.passes.specs.declared.Hearing.{Hearing}
 use Rattle.listing.specs.declared.Line.{Line}
 use Rattle.text.specs.Ascii.{ascii}
 use Rattle.text.specs.Decimal.{decimal}

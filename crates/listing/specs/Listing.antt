@@ -11,8 +11,8 @@ use Rattle.blocks.specs.Frames.{framesOf}
 use Rattle.blocks.specs.declared.Walk.{Walk}
 use Rattle.blocks.specs.declared.Ending.{Ending}
 use Rattle.blocks.specs.declared.Ending.the-variants.{Sound, Refused}
-use Rattle.recording.specs.Counted.{countsOf}
-use Rattle.recording.specs.Pass.{frameHeard}
+use Rattle.passes.specs.Counted.{countsOf}
+use Rattle.passes.specs.Pass.{frameHeard}
 use Rattle.listing.specs.Lines.{headLine, frameLine, lastLine, refusedLine}
 use Rattle.listing.specs.declared.Listed.{Listed}
 use Rattle.listing.specs.declared.Listed.the-variants.{Text, WrongLength}

@@ -4,9 +4,9 @@ use blocks::Cause;
 use blocks::Ending;
 use blocks::Told;
 use blocks::Walk;
-use recording::Counts;
-use recording::Hearing;
-use recording::Pass;
+use passes::Counts;
+use passes::Hearing;
+use passes::Pass;
 use values::State;
 ghost use mathlib.Core.Path.{_≡_};
 ghost use Prim.Native.Nat.{_≤_};
@@ -14,7 +14,7 @@ ghost use lib.ListN.{length};
 ghost use Rattle.text.specs.Laid.{laid, after};
 ghost use Rattle.blocks.specs.Walk.{walkedOf};
 ghost use Rattle.blocks.specs.Frames.{framesOf};
-ghost use Rattle.recording.specs.Pass.{startOf};
+ghost use Rattle.passes.specs.Pass.{startOf};
 ghost use Rattle.listing.specs.Lines.{headLine, frameText, frameLine, lastLine, placeShown, refusedLine, IsLine, textOf};
 ghost use Rattle.listing.specs.Listing.{bodyOf, soundText, listedOf, listingLeft};
 ghost use Rattle.blocks.specs.declared.Ending.the-variants.{Sound};
@@ -62,7 +62,7 @@ fn put_sound(out: &mut [u8], s: &[u8], walk: Walk) -> usize
     ensures { λ _. ⌜ now (out .exit) ≡ laid (now (out .entry)) 0 (soundText walk (framesOf (now (s .entry)))) ⌝ }
 {
     let start = put_line(out, 0, head_line(walk));
-    let begun = recording::begin(walk, State::fresh());
+    let begun = passes::begin(walk, State::fresh());
     put_frames(out, start, s, begun)
 }
 
@@ -163,7 +163,7 @@ fn put_frames(out: &mut [u8], start: usize, s: &[u8], mut pass: Pass) -> usize
 {
     let mut end = start;
     loop {
-        let step = recording::next(s, pass);
+        let step = passes::next(s, pass);
         if step.pass.frames == pass.frames {
             return put_line(out, end, last_line(pass.counts));
         }

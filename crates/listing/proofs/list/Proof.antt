@@ -1,6 +1,6 @@
 use borrow.Author.Needs.{needs}
 use native.Mathlib.Omega.{arith}
-use Rattle.recording.proofs.Through.{sound-walk}
+use Rattle.passes.proofs.Through.{sound-walk}
 use Rattle.listing.proofs.Puts.{put-length}
 use Rattle.listing.proofs.Listings.{wrong-length, listed-refused, listed-sound}
 use Rattle.listing.proofs.list.Statement.{statement}

@@ -2,7 +2,7 @@ use native.Mathlib.Omega.{arith}
 use Prim.Native.Nat.{_-_}
 use lib.ListN.{length}
 use Rattle.blocks.specs.Frames.{framesOf}
-use Rattle.recording.proofs.Through.{step-further}
+use Rattle.passes.proofs.Through.{step-further}
 use Rattle.listing.proofs.Puts.{put-length, put-within}
 use Rattle.listing.proofs.Frames.{Listing, listing-start, listing-on, listing-done}
 use Rattle.listing.proofs.put_frames.Statement.{statement}

@@ -1,5 +1,5 @@
 use native.Mathlib.Omega.{arith}
-use Rattle.recording.proofs.Passes.{start-walk}
+use Rattle.passes.proofs.Passes.{start-walk}
 use Rattle.listing.proofs.Puts.{put-length, put-within}
 use Rattle.listing.proofs.Listings.{sound-put}
 use Rattle.listing.proofs.put_sound.Statement.{statement}
