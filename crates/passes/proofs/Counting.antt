@@ -3,44 +3,45 @@
 use mathlib.Core.Path.{_≡_, _∙_, sym, refl, ap}
 use mathlib.Core.Bool.{Bool, true, false, cond}
 use mathlib.Core.List.{List}
-use Prim.Native.Nat.{ℕ, _+_, _%_, _≤_}
+use Prim.Native.Nat.{ℕ, _+_, _-_, _%_, _≤_}
 use native.Mathlib.Omega.{arith}
+use native.Mathlib.Decide.{ℕ-discrete}
 use borrow.Author.Tests.{eq-eqb, ne-eqb}
 use lib.Dec.{eqb}
 use Rattle.laws.proofs.Total.{total-more, total-most}
 use Rattle.laws.specs.Total.{total}
 use Rattle.frame.specs.Answers.{readingOf, correctionNumber}
-use Rattle.frame.specs.declared.Reading.{Reading}
-use Rattle.passes.specs.Counted.{repairBy, syncAt, breakBy, counting, frameAt, countsTo}
+use Rattle.passes.specs.Counted.{repairOf, repairBy, syncAt, breakOf, breakBy, countingOf, counting, frameAt}
+use Rattle.passes.specs.Counted.{countsTo}
 use Rattle.passes.specs.declared.Counts.{Counts}
 
 -- the returns of `repair_by`: 0 where the number is 0, or else 1
-module _ (r : Reading) where
+module _ (number : ℕ) where
   -- number 0 is no repair
-  pub repair-none : {n : ℕ} → n ≡ correctionNumber r → n ≡ 0 → 0 ≡ repairBy r
-  repair-none is z = rw (eq-eqb (correctionNumber r) 0 (sym is ∙ z))
+  pub repair-none : number ≡ 0 → 0 ≡ repairOf number
+  repair-none z = rw (eq-eqb number 0 z)
 
   -- any other is one
-  pub repair-one : {n : ℕ} → n ≡ correctionNumber r → (n ≡ 0 → ⊥) → 1 ≡ repairBy r
-  repair-one is z = rw (ne-eqb (correctionNumber r) 0 (λ e. z (is ∙ e)))
+  pub repair-one : (number ≡ 0 → ⊥) → 1 ≡ repairOf number
+  repair-one z = rw (ne-eqb number 0 z)
 
--- the returns of `break_by`: 0 where SY is 0 at an odd number or 1 at an even one, or else 1
-module _ (n : ℕ) (r : Reading) where
-  -- SY 0 at an odd number is no break
-  pub odd-none : n % 2 ≡ 1 → r .indices .sy ≡ 0 → 0 ≡ breakBy n r
-  odd-none o e = rw (eq-eqb (n % 2) 1 o, eq-eqb (r .indices .sy) 0 e)
+-- the SY that is expected is 0 at an odd number and 1 at an even one
+sync-is : (n : ℕ) → syncAt n ≡ 1 - n % 2
+sync-is n = go (ℕ-discrete (n % 2) 1)
+  where
+    go : Dec (n % 2 ≡ 1) → syncAt n ≡ 1 - n % 2
+    go (yes o) = rw (eq-eqb (n % 2) 1 o) (omega arith)
+    go (no e) = rw (ne-eqb (n % 2) 1 e) (omega arith)
 
-  -- any other SY there is one
-  pub odd-one : n % 2 ≡ 1 → (r .indices .sy ≡ 0 → ⊥) → 1 ≡ breakBy n r
-  odd-one o e = rw (eq-eqb (n % 2) 1 o, ne-eqb (r .indices .sy) 0 e)
+-- the returns of `break_by`: 0 where SY is the one that is expected, or else 1
+module _ (n sy : ℕ) where
+  -- the SY that is expected is no break
+  pub break-none : sy ≡ 1 - n % 2 → 0 ≡ breakOf n sy
+  break-none e = rw (eq-eqb sy (syncAt n) (e ∙ sym (sync-is n)))
 
-  -- SY 1 at an even number is no break
-  pub even-none : (n % 2 ≡ 1 → ⊥) → r .indices .sy ≡ 1 → 0 ≡ breakBy n r
-  even-none o e = rw (ne-eqb (n % 2) 1 o, eq-eqb (r .indices .sy) 1 e)
-
-  -- any other SY there is one
-  pub even-one : (n % 2 ≡ 1 → ⊥) → (r .indices .sy ≡ 1 → ⊥) → 1 ≡ breakBy n r
-  even-one o e = rw (ne-eqb (n % 2) 1 o, ne-eqb (r .indices .sy) 1 e)
+  -- any other is one
+  pub break-one : (sy ≡ 1 - n % 2 → ⊥) → 1 ≡ breakOf n sy
+  break-one w = rw (ne-eqb sy (syncAt n) (λ e. w (e ∙ sync-is n)))
 
 -- a frame counts at most once as repaired and at most once as a break
 one-at-most : (b : Bool) → cond b 0 1 ≤ 1
@@ -48,17 +49,17 @@ one-at-most true = omega arith
 one-at-most false = omega arith
 
 -- a frame counts at most one repair
-pub repair-small : (r : Reading) → repairBy r ≤ 1
-repair-small r = one-at-most (eqb (correctionNumber r) 0)
+pub repair-small : (number : ℕ) → repairOf number ≤ 1
+repair-small number = one-at-most (eqb number 0)
 
 -- and at most one break
-pub break-small : (n : ℕ) (r : Reading) → breakBy n r ≤ 1
-break-small n r = one-at-most (eqb (r .indices .sy) (syncAt n))
+pub break-small : (n sy : ℕ) → breakOf n sy ≤ 1
+break-small n sy = one-at-most (eqb sy (syncAt n))
 
 -- the return of `Counts::with`
-pub counted : (c : Counts) (n : ℕ) (r : Reading) {more broken : ℕ} → more ≡ repairBy r → broken ≡ breakBy n r
-    → record { repaired = c .repaired + more; breaks = c .breaks + broken } ≡ counting c n r
-counted c n r p q = λ i. record { repaired = c .repaired + p i; breaks = c .breaks + q i }
+pub counted : (c : Counts) (n number sy : ℕ) {more broken : ℕ} → more ≡ repairOf number → broken ≡ breakOf n sy
+    → record { repaired = c .repaired + more; breaks = c .breaks + broken } ≡ countingOf c n number sy
+counted c n number sy p q = λ i. record { repaired = c .repaired + p i; breaks = c .breaks + q i }
 
 module _ (frames : List (List ℕ)) where
   -- no frame counts nothing
@@ -83,7 +84,7 @@ module _ (frames : List (List ℕ)) where
       omega (
         arith,
         total-most (λ n. repairBy (readingOf (frameAt frames n))) 1 k
-            (λ n a b. repair-small (readingOf (frameAt frames n))),
+            (λ n a b. repair-small (correctionNumber (readingOf (frameAt frames n)))),
       )
 
   -- no more breaks than frames are counted
@@ -93,5 +94,5 @@ module _ (frames : List (List ℕ)) where
       omega (
         arith,
         total-most (λ n. breakBy n (readingOf (frameAt frames n))) 1 k
-            (λ n a b. break-small n (readingOf (frameAt frames n))),
+            (λ n a b. break-small n (readingOf (frameAt frames n) .indices .sy)),
       )

@@ -22,12 +22,6 @@ unfolding hearingOf
 heard-frame before f read valued =
     λ i. record { reading = read i; values = (valued ∙ ap (λ (x : Reading). valuesOf (x .indices) before) read) i }
 
--- the return of `Hearing::nothing`
-pub heard-nothing : (before : State) {r : Reading} {v : Values} → r ≡ readingOf [] → v ≡ nothingHeard before
-    → record { reading = r; values = v } ≡ noHearing before
-unfolding noHearing
-heard-nothing before read valued = λ i. record { reading = read i; values = valued i }
-
 -- the state after one frame more
 pub through-more : (before : State) (fs : List (List ℕ)) (f : List ℕ)
     → stateThrough before (fs ++ (f ∷ [])) ≡ hearingOf (stateThrough before fs) f .values .state

@@ -12,9 +12,11 @@ use lib.Dec.{leb}
 use lib.ListN.{length, getD, take, drop, drop-of-length-le}
 use lib.Seq.{drop-cons, take-all}
 use Rattle.laws.specs.Table.{both}
-use Rattle.frame.specs.Answers.{readingOf}
+use Rattle.frame.specs.Answers.{readingOf, correctionNumber}
 use Rattle.frame.specs.declared.Reading.{Reading}
+use Rattle.values.specs.Values.{nothingHeard}
 use Rattle.values.specs.declared.State.{State}
+use Rattle.values.specs.declared.Values.{Values}
 use Rattle.blocks.specs.Blocks.{part}
 use Rattle.blocks.specs.Walk.{longest, walkedOf}
 use Rattle.blocks.specs.Frames.{ifSound, framesOf, foundAt, framesFrom}
@@ -30,7 +32,7 @@ use Rattle.blocks.proofs.Blocks.{nothing-left}
 use Rattle.blocks.proofs.Voices.{broken-no-voice}
 use Rattle.blocks.proofs.Walks.{sound-short}
 use Rattle.blocks.proofs.Frames.{no-voice, Within, found-within, frames-none, frames-more, frames-refused, frames-sound}
-use Rattle.passes.specs.Counted.{counting, frameAt, countsTo}
+use Rattle.passes.specs.Counted.{countingOf, counting, frameAt, countsTo}
 use Rattle.passes.specs.Pass.{hearingOf, noHearing, stateThrough, frameHeard, begunAt, startOf, begunHere}
 use Rattle.passes.specs.Pass.{aheadOf, pastFrame, stepBy, nextOf, passAt}
 use Rattle.passes.specs.declared.Counts.{Counts}
@@ -137,17 +139,20 @@ module _ (s : List ℕ) (p : Pass) where
           }
 
 -- of `Pass::past`
-pub past-frame : (p : Pass) (h : Hearing) (end left : ℕ) {c : Counts}
-    → c ≡ counting (p .counts) (p .frames + 1) (h .reading)
+pub past-frame : (p : Pass) (h : Hearing) (end left : ℕ) {number : ℕ} {c : Counts}
+    → number ≡ correctionNumber (h .reading) → c ≡ countingOf (p .counts) (p .frames + 1) number (h .reading .indices .sy)
     → record { at = end; left = left; frames = p .frames + 1; counts = c; state = h .values .state }
     ≡ pastFrame p h end left
-past-frame p h end left e =
-    λ i. record { at = end; left = left; frames = p .frames + 1; counts = e i; state = h .values .state }
+past-frame p h end left is e =
+    let f = ap (λ (n : ℕ). countingOf (p .counts) (p .frames + 1) n (h .reading .indices .sy)) is in
+    λ i. record { at = end; left = left; frames = p .frames + 1; counts = (e ∙ f) i; state = h .values .state }
 
 -- of `Pass::stay`
-pub stayed : (p : Pass) {h : Hearing} → h ≡ noHearing (p .state)
-    → _≡_ {A = Step} (record { hearing = h; pass = p }) (record { hearing = noHearing (p .state); pass = p })
-stayed p e = λ i. record { hearing = e i; pass = p }
+pub stayed : (p : Pass) {r : Reading} {v : Values} → r ≡ readingOf [] → v ≡ nothingHeard (p .state)
+    → _≡_ {A = Step} (record { hearing = record { reading = r; values = v }; pass = p })
+    (record { hearing = noHearing (p .state); pass = p })
+unfolding noHearing
+stayed p read valued = λ i. record { hearing = record { reading = read i; values = valued i }; pass = p }
 
 -- of `Pass::hear`
 module _ (s : List ℕ) (p : Pass) where

@@ -9,8 +9,8 @@ use values::Values;
 ghost use mathlib.Core.Path.{_≡_};
 ghost use Prim.Native.Nat.{_≤_};
 ghost use Rattle.blocks.specs.Walk.{longest};
-ghost use Rattle.passes.specs.Counted.{repairBy, breakBy, counting};
-ghost use Rattle.passes.specs.Pass.{hearingOf, noHearing, begunAt, startOf, aheadOf, pastFrame, stepBy, nextOf};
+ghost use Rattle.passes.specs.Counted.{repairOf, breakOf, countingOf};
+ghost use Rattle.passes.specs.Pass.{hearingOf, begunAt, startOf, aheadOf, pastFrame, stepBy, nextOf};
 ghost use Rattle.blocks.specs.declared.Found.the-variants.{At, Nothing};
 
 // Repaired frames and sync breaks.
@@ -48,7 +48,7 @@ pub fn start(s: &[u8], state: State) -> Pass
     let walked = blocks::walk_through(s);
     let ending = walked.ending;
     match ending {
-        Ending::Sound => begin(walked.walk, state),
+        Ending::Sound => Pass::begun(walked.walk.voices, state),
         Ending::Refused(_) => Pass::begun(s.len(), state),
     }
 }
@@ -77,15 +77,6 @@ impl Hearing {
     {
         let reading = frame::read(bytes);
         let values = values::values_of(reading.indices, before);
-        Hearing { reading, values }
-    }
-
-    // What is heard where there is no frame.
-    fn nothing(s: &[u8], before: State) -> Hearing
-        ensures { λ r. ⌜ r ≡ noHearing before ⌝ }
-    {
-        let reading = frame::read(&s[..0]);
-        let values = Values::nothing(before);
         Hearing { reading, values }
     }
 }
@@ -128,7 +119,9 @@ impl Pass {
     fn stay(self, s: &[u8]) -> Step
         ensures { λ r. ⌜ r ≡ stepBy (now (s .entry)) self Nothing ⌝ }
     {
-        let hearing = Hearing::nothing(s, self.state);
+        let reading = frame::read(&s[..0]);
+        let values = Values::nothing(self.state);
+        let hearing = Hearing { reading, values };
         Step {
             hearing,
             pass: self,
@@ -154,7 +147,8 @@ impl Pass {
         ensures { λ r. ⌜ r ≡ pastFrame self hearing end left ⌝ }
     {
         let frames = self.frames + 1;
-        let counts = self.counts.with(frames, hearing.reading);
+        let number = hearing.reading.correction_number();
+        let counts = self.counts.with(frames, number, hearing.reading.indices.sy);
         let state = hearing.values.state;
         Pass {
             at: end,
@@ -167,41 +161,34 @@ impl Pass {
 }
 
 impl Counts {
-    // These counts with frame n counted too.
-    fn with(self, n: u32, reading: Reading) -> Counts
+    // These counts with frame n counted too, by its correction number and its SY.
+    fn with(self, n: u32, number: usize, sy: u16) -> Counts
         requires { ⌜ self .repaired ≤ longest ⌝ }
         requires { ⌜ self .breaks ≤ longest ⌝ }
-        ensures { λ r. ⌜ r ≡ counting self n reading ⌝ }
+        ensures { λ r. ⌜ r ≡ countingOf self n number sy ⌝ }
     {
-        let repaired = self.repaired + repair_by(reading);
-        let breaks = self.breaks + break_by(n, reading);
+        let repaired = self.repaired + repair_by(number);
+        let breaks = self.breaks + break_by(n, sy);
         Counts { repaired, breaks }
     }
 }
 
-// 1 for a repaired frame.
-fn repair_by(reading: Reading) -> u32
-    ensures { λ r. ⌜ r ≡ repairBy reading ⌝ }
+// 1 for a repaired frame, by its correction number.
+fn repair_by(number: usize) -> u32
+    ensures { λ r. ⌜ r ≡ repairOf number ⌝ }
 {
-    let number = reading.correction_number();
     if number == 0 {
         return 0;
     }
     1
 }
 
-// 1 for a sync break at frame n.
-fn break_by(n: u32, reading: Reading) -> u32
-    ensures { λ r. ⌜ r ≡ breakBy n reading ⌝ }
+// 1 for a sync break at frame n, by its SY.
+fn break_by(n: u32, sy: u16) -> u32
+    ensures { λ r. ⌜ r ≡ breakOf n sy ⌝ }
 {
-    let sy = reading.indices.sy;
-    if n % 2 == 1 {
-        if sy == 0 {
-            return 0;
-        }
-        return 1;
-    }
-    if sy == 1 {
+    let expected = 1 - n % 2;
+    if sy as u32 == expected {
         return 0;
     }
     1

@@ -5,11 +5,11 @@ use Rattle.passes.proofs.start.Tie as tie
 
 returns : tie.Need-returns
 returns c = start-sound _ _ (c .before .before .before .walk-through .ensures) (c .before .enum-told .given .1)
-    (c .begin .ensures)
+    (c .begun .ensures)
 
 returns-2 : tie.Need-returns-2
 returns-2 c = start-refused _ _ (c .before .before .before .walk-through .ensures) (c .before .enum-told2 .given .1)
-    (c .begun .ensures)
+    (c .begun2 .ensures)
 
 pub start-spec : {M : Type 1} → statement M
 start-spec = tie.close (tie.spec (λ c κs. tt) (search needs) (λ c κs. tt) (search needs) (λ c κs. tt) returns returns-2)

@@ -9,8 +9,9 @@ add-frames c = omega arith
 
 returns : tie.Need-returns
 returns c =
-    let s = c .before .before .before in
-    past-frame (s .args .self) (s .args .hearing) _ _ (c .before .with .ensures)
+    let n = c .before .before in
+    let s = n .before .before in
+    past-frame (s .args .self) (s .args .hearing) _ _ (n .correction-number .ensures) (c .before .with .ensures)
 
 pub past-spec : {M : Type 1} → statement M
-past-spec = tie.close (tie.spec add-frames (search needs) returns)
+past-spec = tie.close (tie.spec add-frames (λ c κs. tt) (search needs) returns)
