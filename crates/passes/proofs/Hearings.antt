@@ -14,7 +14,7 @@ use Rattle.values.specs.declared.Values.{Values}
 use Rattle.passes.specs.Pass.{hearingOf, noHearing, stateThrough, firstHeard, frameHeard}
 use Rattle.passes.specs.declared.Hearing.{Hearing}
 
--- the return of `Hearing::of`
+-- what is read in a frame and its values are what is heard of it
 pub heard-frame : (before : State) (f : List ℕ) {r : Reading} {v : Values} → r ≡ readingOf f
     → v ≡ valuesOf (r .indices) before
     → record { reading = r; values = v } ≡ hearingOf before f

@@ -10,7 +10,7 @@ ghost use mathlib.Core.Path.{_≡_};
 ghost use Prim.Native.Nat.{_≤_};
 ghost use Rattle.blocks.specs.Walk.{longest};
 ghost use Rattle.passes.specs.Counted.{repairOf, breakOf, countingOf};
-ghost use Rattle.passes.specs.Pass.{hearingOf, begunAt, startOf, aheadOf, pastFrame, stepBy, nextOf};
+ghost use Rattle.passes.specs.Pass.{begunAt, startOf, aheadOf, pastFrame, stepBy, nextOf};
 ghost use Rattle.blocks.specs.declared.Found.the-variants.{At, Nothing};
 
 // Repaired frames and sync breaks.
@@ -70,17 +70,6 @@ pub fn next(s: &[u8], pass: Pass) -> Step
     }
 }
 
-impl Hearing {
-    // What is heard of any bytes taken for a frame, after a state.
-    fn of(bytes: &[u8], before: State) -> Hearing
-        ensures { λ r. ⌜ r ≡ hearingOf before (now (bytes .entry)) ⌝ }
-    {
-        let reading = frame::read(bytes);
-        let values = values::values_of(reading.indices, before);
-        Hearing { reading, values }
-    }
-}
-
 impl Pass {
     // A pass before the frame at a place, with no frame passed.
     fn begun(at: usize, state: State) -> Pass
@@ -134,7 +123,9 @@ impl Pass {
         ensures { λ r. ⌜ r ≡ stepBy (now (s .entry)) self (At first rest) ⌝ }
     {
         let end = first + 18;
-        let hearing = Hearing::of(&s[first..end], self.state);
+        let reading = frame::read(&s[first..end]);
+        let values = values::values_of(reading.indices, self.state);
+        let hearing = Hearing { reading, values };
         let pass = self.past(hearing, end, rest);
         Step { hearing, pass }
     }
