@@ -58,12 +58,11 @@ fn summarize(s: &[u8], walk: Walk) -> Summary
     }
 }
 
-// The pass k frames after the start; where there are not so many, the one at the end.
-fn pass_after(s: &[u8], k: usize, start: Pass) -> Pass
-    requires { ⌜ start ≡ startOf (start .state) (now s) ⌝ }
-    ensures { λ r. ⌜ r ≡ passAt (start .state) (now (s .entry)) k ⌝ }
+// The pass k frames after one at the start; where there are not so many, the one at the end.
+fn pass_after(s: &[u8], k: usize, mut pass: Pass) -> Pass
+    requires { ⌜ pass ≡ startOf (pass .state) (now s) ⌝ }
+    ensures { λ r. ⌜ r ≡ passAt (pass .state) (now (s .entry)) k ⌝ }
 {
-    let mut pass = start;
     let mut ahead = k;
     while 0 < ahead {
         let step = passes::next(s, pass);
