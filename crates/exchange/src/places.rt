@@ -1,9 +1,9 @@
 // The functions of recordings and values at places that no recording leads to.
 use crate::say;
 use blocks::Found;
+use passes::Counts;
+use passes::Pass;
 use record::Record;
-use recording::Counts;
-use recording::Pass;
 use values::Outcome;
 use values::State;
 use values::Values;
@@ -71,7 +71,7 @@ pub fn next(s: &[u8], n: usize) {
         counts,
         state,
     };
-    let step = recording::next(s, pass);
+    let step = passes::next(s, pass);
     let after = step.pass;
     passed(after);
 }

@@ -1,17 +1,17 @@
 // The line of each frame.
 use crate::line;
 use frame::Reading;
-use recording::Hearing;
+use passes::Hearing;
 use values::Outcome;
 use values::State;
 use values::Values;
 
 // The lines of so many frames, by a pass from a fresh state on. Answers whether all were written.
 pub fn all(s: &[u8], count: u32) -> bool {
-    let mut pass = recording::start(s, State::fresh());
+    let mut pass = passes::start(s, State::fresh());
     let mut k = 0;
     while k < count {
-        let step = recording::next(s, pass);
+        let step = passes::next(s, pass);
         k += 1;
         if !one(k, step.hearing) {
             return false;

@@ -7,7 +7,7 @@ use blocks::Cause;
 use blocks::Told;
 use input::Input;
 use libc::STDERR_FILENO;
-use recording::Counts;
+use passes::Counts;
 use recording::Judged;
 use recording::Summary;
 

@@ -6,17 +6,17 @@ use Prim.Native.Nat.{ℕ, zero, suc, _≤_}
 use lib.ListN.{length}
 use Rattle.values.specs.declared.State.{State}
 use Rattle.blocks.specs.Frames.{framesOf}
-use Rattle.recording.specs.Counted.{countsOf}
-use Rattle.recording.specs.Pass.{frameHeard, startOf, nextOf}
-use Rattle.recording.specs.declared.Counts.{Counts}
-use Rattle.recording.specs.declared.Pass.{Pass}
-use Rattle.recording.specs.declared.Step.{Step}
-use Rattle.recording.proofs.Passes.{Passing}
-use Rattle.recording.proofs.Through.{none-passed, on-its-way, step-hears, step-further, step-ended, all-counted}
+use Rattle.passes.specs.Counted.{countsOf}
+use Rattle.passes.specs.Pass.{frameHeard, startOf, nextOf}
+use Rattle.passes.specs.declared.Counts.{Counts}
+use Rattle.passes.specs.declared.Hearing.{Hearing}
+use Rattle.passes.specs.declared.Pass.{Pass}
+use Rattle.passes.specs.declared.Step.{Step}
+use Rattle.passes.proofs.Passes.{Passing}
+use Rattle.passes.proofs.Through.{none-passed, on-its-way, step-hears, step-further, step-ended, all-counted}
 use Rattle.text.proofs.Laid.{put-then}
-use Rattle.listing.specs.Lines.{lineOf, frameLine, lastLine}
+use Rattle.listing.specs.Lines.{frameLine, lastLine}
 use Rattle.listing.specs.Listing.{linesTo, bodyOf}
-use Rattle.listing.specs.declared.Line.{Line}
 use Rattle.listing.proofs.Puts.{Put, put-as, put-nothing}
 
 -- the pass is on its way, and the lines of the frames that it passed are laid
@@ -31,7 +31,7 @@ lines-none before frames = refl
 
 -- the lines of one frame more
 lines-more : (before : State) (frames : List (List ℕ)) (k : ℕ)
-    → linesTo before frames k ++ frameLine (suc k) (lineOf (frameHeard before frames (suc k)))
+    → linesTo before frames k ++ frameLine (suc k) (frameHeard before frames (suc k))
     ≡ linesTo before frames (suc k)
 unfolding linesTo
 lines-more before frames k = refl
@@ -52,28 +52,30 @@ module _ {before : State} {s o : List ℕ} {start : ℕ} {o′ : List ℕ} {end 
     (l : Listing before s o start o′ end p)
     {t : Step} (is : t ≡ nextOf s p) {o″ : List ℕ} {end′ : ℕ} where
   -- a frame was passed, and its line follows
-  pub listing-on : (t .pass .frames ≡ p .frames → ⊥) → {x : Line} → x ≡ lineOf (t .hearing)
-      → Put o′ end (frameLine (t .pass .frames) x) end′ o″
+  pub listing-on : (t .pass .frames ≡ p .frames → ⊥) → {u : List ℕ} → u ≡ frameLine (t .pass .frames) (t .hearing)
+      → Put o′ end u end′ o″
       → Listing before s o start o″ end′ (t .pass)
-  listing-on w {x} line q =
+  listing-on w {u} line q =
       let f = step-further (l .passing) is w in
       record {
         passing = f .passing;
         put =
-            put-as o start (linesTo before (framesOf s) (p .frames) ++ frameLine (t .pass .frames) x)
+            put-as o start (linesTo before (framesOf s) (p .frames) ++ u)
             (linesTo before (framesOf s) (t .pass .frames))
-            (ap₂ (λ (n : ℕ) (y : Line). linesTo before (framesOf s) (p .frames) ++ frameLine n y) (f .one)
-            (line ∙ ap lineOf (step-hears (l .passing) is))
+            (ap (λ (x : List ℕ). linesTo before (framesOf s) (p .frames) ++ x) line
+            ∙ ap₂ (λ (n : ℕ) (h : Hearing). linesTo before (framesOf s) (p .frames) ++ frameLine n h) (f .one)
+            (step-hears (l .passing) is)
             ∙ lines-more before (framesOf s) (p .frames) ∙ ap (linesTo before (framesOf s)) (sym (f .one)))
             (put-then o start _ _ (l .put) q);
       }
 
   -- no frame is left: the last line follows
-  pub listing-done : t .pass .frames ≡ p .frames → Put o′ end (lastLine (p .counts)) end′ o″
+  pub listing-done : t .pass .frames ≡ p .frames → {u : List ℕ} → u ≡ lastLine (p .counts) → Put o′ end u end′ o″
       → Put o start (bodyOf before (framesOf s)) end′ o″
   unfolding bodyOf
-  listing-done w q =
-      put-as o start (linesTo before (framesOf s) (p .frames) ++ lastLine (p .counts)) (bodyOf before (framesOf s))
-      (ap₂ (λ (n : ℕ) (c : Counts). linesTo before (framesOf s) n ++ lastLine c) (step-ended (l .passing) is w)
+  listing-done w {u} last q =
+      put-as o start (linesTo before (framesOf s) (p .frames) ++ u) (bodyOf before (framesOf s))
+      (ap (λ (x : List ℕ). linesTo before (framesOf s) (p .frames) ++ x) last
+      ∙ ap₂ (λ (n : ℕ) (c : Counts). linesTo before (framesOf s) n ++ lastLine c) (step-ended (l .passing) is w)
       (all-counted (l .passing) is w))
       (put-then o start _ _ (l .put) q)

@@ -1,110 +1,108 @@
--- The lines: what the puts of each lay is that line.
+-- The lines: the text of each form with its numbers is that line.
 -- Assumes nothing.
-use mathlib.Core.Path.{_≡_, _∙_, sym, ap}
-use mathlib.Core.List.{List, [], _∷_, _++_}
+use mathlib.Core.Path.{_≡_, _∙_, sym, refl, ap}
+use mathlib.Core.List.{List, [], _∷_, _++_, append-assoc, append-nil}
 use Prim.Native.Nat.{ℕ}
 use borrow.Author.Tests.{eq-eqb, ne-eqb}
+use lib.ListN.{length, getD, take}
+use Rattle.laws.specs.Tabulate.{tabulateFrom}
+use Rattle.laws.proofs.Tabulate.{own-entries}
 use Rattle.frame.specs.Answers.{correctionNumber}
 use Rattle.values.specs.Outcome as values
 use Rattle.blocks.specs.Refusals.{refusalOf, toldOf}
 use Rattle.blocks.specs.declared.Cause.{Cause}
 use Rattle.blocks.specs.declared.Told.{Told}
-use Rattle.blocks.specs.declared.Told.the-variants.{Nothing, Place}
 use Rattle.blocks.specs.declared.Walk.{Walk}
-use Rattle.recording.specs.declared.Counts.{Counts}
-use Rattle.recording.specs.declared.Hearing.{Hearing}
-use Rattle.listing.specs.declared.Line.{Line}
+use Rattle.passes.specs.declared.Counts.{Counts}
+use Rattle.passes.specs.declared.Hearing.{Hearing}
 use Rattle.text.specs.Ascii.{ascii}
 use Rattle.text.specs.Decimal.{decimal}
-use Rattle.text.proofs.Laid.{put-then}
-use Rattle.listing.specs.Lines.{told, pairLine, headLine, fields, lineOf, saidOf, frameLine, lastLine}
-use Rattle.listing.specs.Lines.{placeShown, refusedLine}
-use Rattle.listing.proofs.Puts.{Put, put-as, fields-then}
+use Rattle.listing.specs.Lines.{pairLine, headLine, fields, saidOf, frameText, lastLine, placeShown, refusedLine}
+use Rattle.listing.specs.Lines.{frameLine, filledIn}
 
--- the return of `put_pair`
-pub pair-put : (o : List ℕ) (at : ℕ) (first : List ℕ) (m : ℕ) (second : List ℕ) (n : ℕ) {o₁ o₂ o₃ : List ℕ}
-    {at₁ at₂ at₃ : ℕ}
-    → Put o at (told first m) at₁ o₁ → Put o₁ at₁ (told second n) at₂ o₂ → Put o₂ at₂ (ascii "\n") at₃ o₃
-    → Put o at (pairLine first m second n) at₃ o₃
-unfolding pairLine
-pair-put o at first m second n p q e = put-then o at _ _ (put-then o at _ _ p q) e
+-- eight numbers of which a form shows the first two
+abbrev two : ℕ → ℕ → List ℕ
+two m n = m ∷ n ∷ 0 ∷ 0 ∷ 0 ∷ 0 ∷ 0 ∷ 0 ∷ []
 
--- the return of `put_head`
-pub head-put : (o : List ℕ) (w : Walk) {o₁ o₂ : List ℕ} {at₁ at₂ : ℕ}
-    → Put o 0 (told (ascii "unit ") (w .heading .unit)) at₁ o₁
-    → Put o₁ at₁ (pairLine (ascii " recording ") (w .heading .number) (ascii " frames ") (w .frames)) at₂ o₂
-    → Put o 0 (headLine w) at₂ o₂
-unfolding headLine
-head-put o w p q = put-then o 0 _ _ p q
+-- or three
+abbrev three : ℕ → ℕ → ℕ → List ℕ
+three l m n = l ∷ m ∷ n ∷ 0 ∷ 0 ∷ 0 ∷ 0 ∷ 0 ∷ []
 
--- the return of `put_last`
-pub last-put : (o : List ℕ) (at : ℕ) (c : Counts) {o₁ : List ℕ} {at₁ : ℕ}
-    → Put o at (pairLine (ascii "repaired ") (c .repaired) (ascii " breaks ") (c .breaks)) at₁ o₁
-    → Put o at (lastLine c) at₁ o₁
-unfolding lastLine
-last-put o at c p = p
+-- the return of `head_line`
+pub head-text : (w : Walk)
+    → filledIn (three (w .heading .unit) (w .heading .number) (w .frames))
+    (ascii "unit \0 recording \u{1} frames \u{2}\n") ≡ headLine w
+unfolding filledIn headLine pairLine
+head-text w = simp append-assoc
 
--- the return of `put_refused`
-pub refused-put : (o : List ℕ) (cause : Cause) {number place : ℕ} {tells : Told} {o₁ : List ℕ} {at₁ : ℕ}
-    → number ≡ refusalOf cause
-    → tells ≡ toldOf cause → place ≡ placeShown tells
-    → Put o 0 (pairLine (ascii "refused ") number (ascii " at ") place) at₁ o₁
-    → Put o 0 (refusedLine cause) at₁ o₁
-unfolding refusedLine
-refused-put o cause {number} {place} n t l p =
-    put-as o 0 (pairLine (ascii "refused ") number (ascii " at ") place) (refusedLine cause)
-    (λ i. pairLine (ascii "refused ") (n i) (ascii " at ") ((l ∙ ap placeShown t) i)) p
+-- the return of `last_line`
+pub last-text : (c : Counts) → filledIn (two (c .repaired) (c .breaks)) (ascii "repaired \0 breaks \u{1}\n")
+    ≡ lastLine c
+unfolding filledIn lastLine pairLine
+last-text c = simp append-assoc
+
+-- the return of `refused_line`
+pub refused-text : (cause : Cause) {number place : ℕ} {tells : Told} → number ≡ refusalOf cause → tells ≡ toldOf cause
+    → place ≡ placeShown tells
+    → filledIn (two number place) (ascii "refused \0 at \u{1}\n") ≡ refusedLine cause
+unfolding filledIn refusedLine pairLine
+refused-text cause n t l = rw (l ∙ ap placeShown t, n) (simp append-assoc)
 
 -- the returns of `place_shown`
 pub shown : (t : Told) {u : Told} {n : ℕ} → t ≡ u → n ≡ placeShown u → n ≡ placeShown t
 shown t e is = is ∙ ap placeShown (sym e)
 
--- the return of `line_of`
-pub line-is : (h : Hearing) {refusal correction : ℕ} → refusal ≡ values.refusalOf (h .values .outcome)
+-- four delays are their list
+four-entries : (l : List ℕ) → length l ≡ 4 → getD l 0 0 ∷ getD l 1 0 ∷ getD l 2 0 ∷ getD l 3 0 ∷ [] ≡ l
+unfolding tabulateFrom
+four-entries l e = own-entries 0 l 4 e
+
+-- numbers, each after a space, and then a text
+unfoldable spaced : List ℕ → List ℕ → List ℕ
+spaced [] t = t
+spaced (n ∷ ns) t = ascii " " ++ (decimal n ++ spaced ns t)
+
+-- fields and then a text are that
+spaced-out : (ns t : List ℕ) → fields ns ++ t ≡ spaced ns t
+unfolding fields spaced
+spaced-out [] t = refl
+spaced-out (n ∷ ns) t =
+    append-assoc (ascii " " ++ decimal n) (fields ns) t
+    ∙ ap (λ (l : List ℕ). ascii " " ++ (decimal n ++ l)) (spaced-out ns t)
+
+-- all numbers of a frame that is heard
+said-four : (n correction mark sy a b c d : ℕ)
+    → filledIn (n ∷ correction ∷ mark ∷ sy ∷ a ∷ b ∷ c ∷ d ∷ [])
+    (ascii "\0 \u{1} \u{2} \u{3} \u{4} \u{5} \u{6} \u{7}\n")
+    ≡ frameText n correction 0 mark sy (a ∷ b ∷ c ∷ d ∷ [])
+unfolding filledIn frameText saidOf spaced
+said-four n correction mark sy a b c d =
+    let ms = mark ∷ sy ∷ a ∷ b ∷ c ∷ d ∷ [] in
+    sym (append-assoc (decimal n ++ fields (correction ∷ [])) (fields ms) (ascii "\n")
+    ∙ append-assoc (decimal n) (fields (correction ∷ [])) (fields ms ++ ascii "\n")
+    ∙ ap (λ (t : List ℕ). decimal n ++ t) (spaced-out (correction ∷ []) (fields ms ++ ascii "\n")
+    ∙ ap (spaced (correction ∷ [])) (spaced-out ms (ascii "\n"))))
+
+-- the returns of `line_of`
+module _ (n correction refusal mark sy : ℕ) (delays : List ℕ) where
+  -- of a frame that is refused the refusal is said
+  pub said-refused : (refusal ≡ 0 → ⊥)
+      → filledIn (three n correction refusal) (ascii "\0 \u{1} refused \u{2}\n")
+      ≡ frameText n correction refusal mark sy delays
+  unfolding filledIn frameText saidOf fields
+  said-refused w = rw (ne-eqb refusal 0 w) (simp (append-assoc, append-nil))
+
+  -- of one that is heard its numbers
+  pub said-heard : refusal ≡ 0 → length delays ≡ 4
+      → filledIn (n ∷ correction ∷ mark ∷ sy ∷ getD delays 0 0 ∷ getD delays 1 0 ∷ getD delays 2 0 ∷ getD delays 3 0
+      ∷ []) (ascii "\0 \u{1} \u{2} \u{3} \u{4} \u{5} \u{6} \u{7}\n") ≡ frameText n correction refusal mark sy delays
+  said-heard z four =
+      said-four n correction mark sy (getD delays 0 0) (getD delays 1 0) (getD delays 2 0) (getD delays 3 0)
+      ∙ ap (frameText n correction 0 mark sy) (four-entries delays four)
+      ∙ ap (λ (r : ℕ). frameText n correction r mark sy delays) (sym z)
+
+-- the return of `frame_line`
+pub line-heard : (n : ℕ) (h : Hearing) {refusal correction : ℕ} → refusal ≡ values.refusalOf (h .values .outcome)
     → correction ≡ correctionNumber (h .reading)
-    → record {
-      correction = correction;
-      refusal = refusal;
-      mark = h .reading .mark;
-      sy = h .reading .indices .sy;
-      delays = h .values .delays;
-    }
-    ≡ lineOf h
-line-is h p q =
-    λ i. record {
-      correction = q i;
-      refusal = p i;
-      mark = h .reading .mark;
-      sy = h .reading .indices .sy;
-      delays =
-          h .values .delays;
-    }
-
--- the return of `put_line`
-pub line-put : (o : List ℕ) (at n : ℕ) (l : Line) {o₁ o₂ o₃ o₄ : List ℕ} {at₁ at₂ at₃ at₄ : ℕ}
-    → Put o at (decimal n) at₁ o₁
-    → Put o₁ at₁ (fields (l .correction ∷ [])) at₂ o₂ → Put o₂ at₂ (saidOf l) at₃ o₃ → Put o₃ at₃ (ascii "\n") at₄ o₄
-    → Put o at (frameLine n l) at₄ o₄
-unfolding frameLine
-line-put o at n l p q u e = put-then o at _ _ (put-then o at _ _ (put-then o at _ _ p q) u) e
-
--- the return of `put_numbers`
-pub numbers-put : (o : List ℕ) (at mark sy : ℕ) (delays : List ℕ) {o₁ o₂ o₃ : List ℕ} {at₁ at₂ at₃ : ℕ}
-    → Put o at (fields (mark ∷ [])) at₁ o₁ → Put o₁ at₁ (fields (sy ∷ [])) at₂ o₂ → Put o₂ at₂ (fields delays) at₃ o₃
-    → Put o at (fields (mark ∷ sy ∷ delays)) at₃ o₃
-numbers-put o at mark sy delays p q u =
-    fields-then o at (mark ∷ sy ∷ []) delays (fields-then o at (mark ∷ []) (sy ∷ []) p q) u
-
--- the returns of `put_said`: a refusal, or the numbers
-module _ (o : List ℕ) (at : ℕ) (l : Line) {o₁ : List ℕ} {at₁ : ℕ} where
-  -- of a frame that is refused the refusal is laid
-  pub said-refused : (l .refusal ≡ 0 → ⊥) → Put o at (told (ascii " refused ") (l .refusal)) at₁ o₁
-      → Put o at (saidOf l) at₁ o₁
-  unfolding saidOf
-  said-refused w p =
-      put-as o at (told (ascii " refused ") (l .refusal)) (saidOf l) (rw (ne-eqb (l .refusal) 0 w)) p
-
-  -- of one that is heard its numbers are laid
-  pub said-heard : l .refusal ≡ 0 → Put o at (fields (l .mark ∷ l .sy ∷ l .delays)) at₁ o₁ → Put o at (saidOf l) at₁ o₁
-  unfolding saidOf
-  said-heard z p = put-as o at (fields (l .mark ∷ l .sy ∷ l .delays)) (saidOf l) (rw (eq-eqb (l .refusal) 0 z)) p
+    → frameText n correction refusal (h .reading .mark) (h .reading .indices .sy) (h .values .delays) ≡ frameLine n h
+line-heard n h p q = λ i. frameText n (q i) (p i) (h .reading .mark) (h .reading .indices .sy) (h .values .delays)

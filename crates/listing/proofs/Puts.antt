@@ -5,13 +5,13 @@ use mathlib.Core.List.{List, [], _∷_, _++_, append-assoc, append-nil}
 use Prim.Native.Nat.{ℕ, suc, _+_, _<_, _≤_}
 use native.Mathlib.Omega.{arith}
 use native.Mathlib.Numerals.{add-one}
+use borrow.Author.Tests.{lt-ltb, le-ltb}
 use lib.ListN.{length, getD, take}
-use lib.Seq.{take-suc, take-all}
-use Rattle.text.specs.Ascii.{ascii}
+use lib.Seq.{take-suc}
 use Rattle.text.specs.Decimal.{decimal}
 use Rattle.text.specs.Laid.{laid, after}
 use Rattle.text.proofs.Laid.{length-laid, laid-none, put-then}
-use Rattle.listing.specs.Lines.{fields}
+use Rattle.listing.specs.Lines.{standing, filledIn}
 
 -- a text is laid at a position: the position after it, and the buffer then
 abbrev pub Put : List ℕ → ℕ → List ℕ → ℕ → List ℕ → Type 0
@@ -34,61 +34,71 @@ put-length o at t p = ap length (p .1) ∙ length-laid o at t
 pub put-within : (o : List ℕ) (at : ℕ) (t : List ℕ) {at′ : ℕ} {o′ : List ℕ} → Put o at t at′ o′ → at′ ≤ length o′
 put-within o at t p = omega (arith, p .0, put-length o at t p)
 
--- numbers that follow numbers
-fields-join : (ms ns : List ℕ) → fields (ms ++ ns) ≡ fields ms ++ fields ns
-unfolding fields
-fields-join [] ns = refl
-fields-join (m ∷ ms) ns =
-    ap (λ (l : List ℕ). ascii " " ++ decimal m ++ l) (fields-join ms ns)
-    ∙ sym (append-assoc (ascii " " ++ decimal m) (fields ms) (fields ns))
+module _ (numbers : List ℕ) where
+  -- a form after a form
+  filled-join : (f g : List ℕ) → filledIn numbers (f ++ g) ≡ filledIn numbers f ++ filledIn numbers g
+  unfolding filledIn
+  filled-join [] g = refl
+  filled-join (c ∷ f) g =
+      ap (λ (l : List ℕ). standing numbers c ++ l) (filled-join f g)
+      ∙ sym (append-assoc (standing numbers c) (filledIn numbers f) (filledIn numbers g))
 
--- no numbers are no text
-fields-none : [] ≡ fields []
-unfolding fields
-fields-none = refl
+  -- of no form nothing is laid
+  filled-none : [] ≡ filledIn numbers []
+  unfolding filledIn
+  filled-none = refl
 
--- one number is a space and the number
-fields-one : (n : ℕ) → ascii " " ++ decimal n ≡ fields (n ∷ [])
-unfolding fields
-fields-one n = sym (append-nil (ascii " " ++ decimal n))
+  -- of a form of one byte what it stands for
+  filled-one : (c : ℕ) → standing numbers c ≡ filledIn numbers (c ∷ [])
+  unfolding filledIn
+  filled-one c = sym (append-nil (standing numbers c))
 
--- the return of `put_field`
-pub field-put : (o : List ℕ) (at n : ℕ) {o₁ o₂ : List ℕ} {at₁ at₂ : ℕ} → Put o at (ascii " ") at₁ o₁
-    → Put o₁ at₁ (decimal n) at₂ o₂
-    → Put o at (fields (n ∷ [])) at₂ o₂
-field-put o at n p q = put-as o at (ascii " " ++ decimal n) (fields (n ∷ [])) (fields-one n)
-    (put-then o at (ascii " ") (decimal n) p q)
+  -- the two ways of a turn of `put_line`: a number, or a byte as it is
+  module _ (o : List ℕ) (at c : ℕ) {at′ end : ℕ} {o′ out : List ℕ} (stays : out ≡ o′) (ends : end ≡ at′) where
+    -- a byte below 8 stands for its number
+    pub standing-number : c < 8 → Put o at (decimal (getD numbers c 0)) at′ o′ → Put o at (standing numbers c) end out
+    standing-number h p =
+        put-as o at (decimal (getD numbers c 0)) (standing numbers c) (rw (lt-ltb c 8 h)) (ends ∙ p .0, stays ∙ p .1)
 
--- fields laid after fields
-pub fields-then : (o : List ℕ) (at : ℕ) (ms ns : List ℕ) {o₁ o₂ : List ℕ} {at₁ at₂ : ℕ} → Put o at (fields ms) at₁ o₁
-    → Put o₁ at₁ (fields ns) at₂ o₂ → Put o at (fields (ms ++ ns)) at₂ o₂
-fields-then o at ms ns p q =
-    put-as o at (fields ms ++ fields ns) (fields (ms ++ ns)) (sym (fields-join ms ns))
-    (put-then o at (fields ms) (fields ns) p q)
+    -- any other stands for itself
+    pub standing-byte : 8 ≤ c → Put o at (c ∷ []) at′ o′ → Put o at (standing numbers c) end out
+    standing-byte h p = put-as o at (c ∷ []) (standing numbers c) (rw (le-ltb c 8 h)) (ends ∙ p .0, stays ∙ p .1)
 
--- the loop of `put_fields`: the first k numbers are laid
-pub record Laying (o : List ℕ) (at : ℕ) (ns o′ : List ℕ) (end k : ℕ) : Type 0 where
-  pub put : Put o at (fields (take k ns)) end o′
-  pub upto : k ≤ length ns
+-- the loop of `put_line`: what the first k bytes of the form stand for is laid
+pub record Laying (o : List ℕ) (at : ℕ) (numbers form : List ℕ) (size : ℕ) (o′ : List ℕ) (end k : ℕ) : Type 0 where
+  pub put : Put o at (filledIn numbers (take k form)) end o′
+  pub upto : k ≤ size
 
--- before the first number nothing is laid
-pub laying-start : (o : List ℕ) (at : ℕ) (ns : List ℕ) → at ≤ length o → Laying o at ns o at 0
-laying-start o at ns h =
-    record { put = put-as o at [] (fields []) fields-none (put-nothing o at h); upto = omega arith }
+-- before the first byte nothing is laid
+pub laying-start : (o : List ℕ) (at : ℕ) (numbers form : List ℕ) (size : ℕ) → at ≤ length o
+    → Laying o at numbers form size o at 0
+laying-start o at numbers form size h =
+    record {
+      put = put-as o at [] (filledIn numbers []) (filled-none numbers) (put-nothing o at h);
+      upto = omega arith;
+    }
 
-module _ {o : List ℕ} {at : ℕ} {ns o′ : List ℕ} {end k : ℕ} (l : Laying o at ns o′ end k) where
-  -- a turn lays one number more
-  pub laying-on : k < length ns → {o″ : List ℕ} {end′ : ℕ} → Put o′ end (fields (getD ns k 0 ∷ [])) end′ o″
-      → Laying o at ns o″ end′ (k + 1)
-  laying-on h p =
+module _ {o : List ℕ} {at : ℕ} {numbers form : List ℕ} {size : ℕ} {o′ : List ℕ} {end k : ℕ}
+    (l : Laying o at numbers form size o′ end k) where
+  -- a turn lays what one byte more stands for
+  pub laying-on : k < size → k < length form → {o″ : List ℕ} {end′ : ℕ}
+      → Put o′ end (standing numbers (getD form k 0)) end′ o″
+      → Laying o at numbers form size o″ end′ (k + 1)
+  laying-on h w p =
       record {
         put =
-            put-as o at (fields (take k ns ++ (getD ns k 0 ∷ []))) (fields (take (k + 1) ns))
-            (ap fields (sym (take-suc ns k 0 h) ∙ ap (λ (n : ℕ). take n ns) (sym (add-one k))))
-            (fields-then o at (take k ns) (getD ns k 0 ∷ []) (l .put) p);
+            put-as o at (filledIn numbers (take k form) ++ standing numbers (getD form k 0))
+            (filledIn numbers (take (k + 1) form))
+            (ap (λ (t : List ℕ). filledIn numbers (take k form) ++ t) (filled-one numbers (getD form k 0))
+            ∙ sym (filled-join numbers (take k form) (getD form k 0 ∷ []))
+            ∙ ap (filledIn numbers) (sym (take-suc form k 0 w) ∙ ap (λ (n : ℕ). take n form) (sym (add-one k))))
+            (put-then o at _ _ (l .put) p);
         upto = omega arith;
       }
 
-  -- after the last all are laid
-  pub laying-done : length ns ≤ k → Put o at (fields ns) end o′
-  laying-done h = put-as o at (fields (take k ns)) (fields ns) (ap fields (take-all k ns h)) (l .put)
+  -- after the last all is laid
+  pub laying-done : size ≤ k → Put o at (filledIn numbers (take size form)) end o′
+  laying-done h =
+      let e : k ≡ size = omega (arith, l .upto) in
+      put-as o at (filledIn numbers (take k form)) (filledIn numbers (take size form))
+      (ap (λ (n : ℕ). filledIn numbers (take n form)) e) (l .put)

@@ -25,17 +25,17 @@ use Rattle.blocks.specs.declared.Ending.{Ending}
 use Rattle.blocks.specs.declared.Ending.the-variants.{Sound, Refused}
 use Rattle.blocks.specs.declared.Walk.{Walk}
 use Rattle.blocks.proofs.Walks.{sound-short}
-use Rattle.recording.specs.Counted.{countsOf}
-use Rattle.recording.specs.Pass.{hearingOf, stateThrough}
-use Rattle.recording.specs.declared.Counts.{Counts}
-use Rattle.recording.proofs.Counting.{repaired-few, breaks-few}
-use Rattle.recording.proofs.Hearings.{heard-there}
-use Rattle.recording.proofs.Passes.{frames-most}
+use Rattle.passes.specs.Counted.{countsOf}
+use Rattle.passes.specs.Pass.{hearingOf, stateThrough}
+use Rattle.passes.specs.declared.Counts.{Counts}
+use Rattle.passes.proofs.Counting.{repaired-few, breaks-few}
+use Rattle.passes.proofs.Hearings.{heard-there}
+use Rattle.passes.proofs.Passes.{frames-most}
 use Rattle.text.specs.Ascii.{ascii}
 use Rattle.text.specs.Decimal.{decimal}
 use Rattle.text.proofs.Decimal.{decimal-most}
-use Rattle.listing.specs.Lines.{pairLine, headLine, fields, lineOf, saidOf, frameLine, lastLine, placeShown}
-use Rattle.listing.specs.Lines.{refusedLine}
+use Rattle.listing.specs.Lines.{pairLine, headLine, fields, saidOf, frameText, frameLine, lastLine}
+use Rattle.listing.specs.Lines.{placeShown, refusedLine}
 use Rattle.listing.specs.Listing.{linesTo, bodyOf, soundText, textBy, listingOf, room}
 use Rattle.listing.specs.Promised.{ListingFits}
 use Rattle.listing.proofs.Told.{Placed, Small, walked-small, walked-placed}
@@ -137,16 +137,17 @@ module _ (before : State) (f : List ℕ) where
       let l = delays-short in
       omega arith
 
-  said-short : length (saidOf (lineOf (hearingOf before f))) ≤ 24
-  unfolding saidOf hearingOf
+  said-short : length (saidOf (values.refusalOf (valuesOf (readingOf f .indices) before .outcome)) (readingOf f .mark)
+      (readingOf f .indices .sy) (valuesOf (readingOf f .indices) before .delays)) ≤ 24
+  unfolding saidOf
   said-short =
       let o = valuesOf (readingOf f .indices) before .outcome in
       chosen (λ (t : List ℕ). length t ≤ 24) (eqb (values.refusalOf o) 0) (λ e. numbers-short)
       (λ e. let l = decimal-most (values.refusalOf o) 1 (omega arith) (outcome-small o)
       in simp length-append (omega arith))
 
-  line-short : (n : ℕ) → n < 10 ^ 4 → length (frameLine n (lineOf (hearingOf before f))) ≤ 35
-  unfolding frameLine hearingOf
+  line-short : (n : ℕ) → n < 10 ^ 4 → length (frameLine n (hearingOf before f)) ≤ 35
+  unfolding frameText hearingOf
   line-short n h =
       let a : length (decimal n) ≤ 4 = decimal-most n 4 (omega arith) h in
       let b = field-short (readingOf f .number) 2 [] (omega arith) (let s = reading-range f .numbered in omega arith) in

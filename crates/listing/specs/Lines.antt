@@ -1,9 +1,11 @@
 -- The lines of a listing (document 01, "The listing program"). Fields are one space apart and each line ends in a
 -- newline.
 use mathlib.Core.Bool.{cond}
+use mathlib.Core.Path.{_≡_}
 use mathlib.Core.List.{List, [], _∷_, _++_}
-use Prim.Native.Nat.{ℕ}
-use lib.Dec.{eqb}
+use Prim.Native.Nat.{ℕ, _≤_}
+use lib.Dec.{eqb, ltb}
+use lib.ListN.{getD, take}
 use Rattle.frame.specs.Answers.{correctionNumber}
 use Rattle.values.specs.Outcome as values
 use Rattle.blocks.specs.Walk.{longest}
@@ -12,8 +14,8 @@ use Rattle.blocks.specs.declared.Cause.{Cause}
 use Rattle.blocks.specs.declared.Told.{Told}
 use Rattle.blocks.specs.declared.Told.the-variants.{Nothing, Place}
 use Rattle.blocks.specs.declared.Walk.{Walk}
-use Rattle.recording.specs.declared.Counts.{Counts}
-use Rattle.recording.specs.declared.Hearing.{Hearing}
+use Rattle.passes.specs.declared.Counts.{Counts}
+use Rattle.passes.specs.declared.Hearing.{Hearing}
 use Rattle.listing.specs.declared.Line.{Line}
 use Rattle.text.specs.Ascii.{ascii}
 use Rattle.text.specs.Decimal.{decimal}
@@ -36,25 +38,20 @@ unfoldable pub fields : List ℕ → List ℕ
 fields [] = []
 fields (n ∷ ns) = ascii " " ++ decimal n ++ fields ns
 
--- what a line prints of a frame that was heard: correction number, its refusal as a record turned into values (0 where
--- there is none), order mark, SY, four delays in twelfths
-abbrev pub lineOf : Hearing → Line
-lineOf h =
-    record {
-      correction = correctionNumber (h .reading);
-      refusal = values.refusalOf (h .values .outcome);
-      mark = h .reading .mark;
-      sy = h .reading .indices .sy;
-      delays = h .values .delays;
-    }
-
--- after the correction number: order mark, SY, four delays; or the refusal
-unfoldable pub saidOf : Line → List ℕ
-saidOf l = cond (eqb (l .refusal) 0) (fields (l .mark ∷ l .sy ∷ l .delays)) (told (ascii " refused ") (l .refusal))
+-- after the correction number: order mark, SY, four delays in twelfths; or the refusal, where there is one (not 0)
+unfoldable pub saidOf : ℕ → ℕ → ℕ → List ℕ → List ℕ
+saidOf refusal mark sy delays = cond (eqb refusal 0) (fields (mark ∷ sy ∷ delays)) (told (ascii " refused ") refusal)
 
 -- the line of frame n: frame number, correction number, and what is said of it
-unfoldable pub frameLine : ℕ → Line → List ℕ
-frameLine n l = decimal n ++ fields (l .correction ∷ []) ++ saidOf l ++ ascii "\n"
+unfoldable pub frameText : ℕ → ℕ → ℕ → ℕ → ℕ → List ℕ → List ℕ
+frameText n correction refusal mark sy delays =
+    decimal n ++ fields (correction ∷ []) ++ saidOf refusal mark sy delays ++ ascii "\n"
+
+-- of a frame that was heard
+abbrev pub frameLine : ℕ → Hearing → List ℕ
+frameLine n h =
+    frameText n (correctionNumber (h .reading)) (values.refusalOf (h .values .outcome)) (h .reading .mark)
+    (h .reading .indices .sy) (h .values .delays)
 
 -- last line: repaired frames and sync breaks
 unfoldable pub lastLine : Counts → List ℕ
@@ -67,3 +64,18 @@ placeShown (Place p) = p
 
 unfoldable pub refusedLine : Cause → List ℕ
 refusedLine cause = pairLine (ascii "refused ") (refusalOf cause) (ascii " at ") (placeShown (toldOf cause))
+
+-- a step of the code: a line by its form. A byte below 8 stands for the number at that place, any other for itself.
+abbrev pub standing : List ℕ → ℕ → List ℕ
+standing numbers c = cond (ltb c 8) (decimal (getD numbers c 0)) (c ∷ [])
+
+unfoldable pub filledIn : List ℕ → List ℕ → List ℕ
+filledIn numbers [] = []
+filledIn numbers (c ∷ form) = standing numbers c ++ filledIn numbers form
+
+abbrev pub textOf : Line → List ℕ
+textOf l = filledIn (l .numbers) (take (l .size) (l .form))
+
+-- a line whose form is that long lays this text
+abbrev pub IsLine : Line → List ℕ → Type 0
+IsLine l text = (l .size ≤ 28) × (textOf l ≡ text)

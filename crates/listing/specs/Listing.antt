@@ -11,16 +11,16 @@ use Rattle.blocks.specs.Frames.{framesOf}
 use Rattle.blocks.specs.declared.Walk.{Walk}
 use Rattle.blocks.specs.declared.Ending.{Ending}
 use Rattle.blocks.specs.declared.Ending.the-variants.{Sound, Refused}
-use Rattle.recording.specs.Counted.{countsOf}
-use Rattle.recording.specs.Pass.{frameHeard}
-use Rattle.listing.specs.Lines.{headLine, lineOf, frameLine, lastLine, refusedLine}
+use Rattle.passes.specs.Counted.{countsOf}
+use Rattle.passes.specs.Pass.{frameHeard}
+use Rattle.listing.specs.Lines.{headLine, frameLine, lastLine, refusedLine}
 use Rattle.listing.specs.declared.Listed.{Listed}
 use Rattle.listing.specs.declared.Listed.the-variants.{Text, WrongLength}
 
 -- a line for each of the first k frames, heard one after the other from a state on
 unfoldable pub linesTo : State → List (List ℕ) → ℕ → List ℕ
 linesTo before frames zero = []
-linesTo before frames (suc k) = linesTo before frames k ++ frameLine (suc k) (lineOf (frameHeard before frames (suc k)))
+linesTo before frames (suc k) = linesTo before frames k ++ frameLine (suc k) (frameHeard before frames (suc k))
 
 -- after the first line: the lines of all frames, and their counts
 unfoldable pub bodyOf : State → List (List ℕ) → List ℕ

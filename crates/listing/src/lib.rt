@@ -4,19 +4,18 @@ use blocks::Cause;
 use blocks::Ending;
 use blocks::Told;
 use blocks::Walk;
-use recording::Counts;
-use recording::Hearing;
-use recording::Pass;
+use passes::Counts;
+use passes::Hearing;
+use passes::Pass;
 use values::State;
 ghost use mathlib.Core.Path.{_≡_};
-ghost use mathlib.Core.List.{[], _∷_};
 ghost use Prim.Native.Nat.{_≤_};
 ghost use lib.ListN.{length};
 ghost use Rattle.text.specs.Laid.{laid, after};
 ghost use Rattle.blocks.specs.Walk.{walkedOf};
 ghost use Rattle.blocks.specs.Frames.{framesOf};
-ghost use Rattle.recording.specs.Pass.{startOf};
-ghost use Rattle.listing.specs.Lines.{told, pairLine, headLine, fields, lineOf, saidOf, frameLine, lastLine, placeShown, refusedLine};
+ghost use Rattle.passes.specs.Pass.{startOf};
+ghost use Rattle.listing.specs.Lines.{headLine, frameText, frameLine, lastLine, placeShown, refusedLine, IsLine, textOf};
 ghost use Rattle.listing.specs.Listing.{bodyOf, soundText, listedOf, listingLeft};
 ghost use Rattle.blocks.specs.declared.Ending.the-variants.{Sound};
 
@@ -26,13 +25,11 @@ pub enum Listed {
     WrongLength,
 }
 
-// What a line prints of a frame: its correction number, its refusal (0 where there is none), order mark, SY, four delays in twelfths.
+// A line as it is to be laid: the first bytes of its form, in which each byte below 8 stands for the number at that place.
 pub struct Line {
-    pub correction: usize,
-    pub refusal: u32,
-    pub mark: usize,
-    pub sy: u16,
-    pub delays: [u16; 4],
+    pub form: [u8; 28],
+    pub size: usize,
+    pub numbers: [u64; 8],
 }
 
 // Lists any bytes as a recording, into a lent buffer. A refusal writes nothing.
@@ -47,7 +44,7 @@ pub fn list(s: &[u8], out: &mut [u8]) -> Listed
     let ending = walked.ending;
     match ending {
         Ending::Refused(cause) => {
-            let end = put_refused(out, cause);
+            let end = put_line(out, 0, refused_line(cause));
             Listed::Text(end)
         }
         Ending::Sound => {
@@ -64,146 +61,136 @@ fn put_sound(out: &mut [u8], s: &[u8], walk: Walk) -> usize
     ensures { λ r. ⌜ r ≡ after (now (out .entry)) 0 (soundText walk (framesOf (now (s .entry)))) ⌝ }
     ensures { λ _. ⌜ now (out .exit) ≡ laid (now (out .entry)) 0 (soundText walk (framesOf (now (s .entry)))) ⌝ }
 {
-    let start = put_head(out, walk);
-    let begun = recording::begin(walk, State::fresh());
+    let start = put_line(out, 0, head_line(walk));
+    let begun = passes::begin(walk, State::fresh());
     put_frames(out, start, s, begun)
 }
 
-// Lays the first line.
-fn put_head(out: &mut [u8], walk: Walk) -> usize
-    ensures { λ r. ⌜ r ≡ after (now (out .entry)) 0 (headLine walk) ⌝ }
-    ensures { λ _. ⌜ now (out .exit) ≡ laid (now (out .entry)) 0 (headLine walk) ⌝ }
+// The first line of a sound recording.
+fn head_line(walk: Walk) -> Line
+    ensures { λ r. ⌜ IsLine r (headLine walk) ⌝ }
 {
-    let unit = put_told(out, 0, b"unit ", walk.heading.unit as u64);
-    put_pair(
-        out,
-        unit,
-        b" recording ",
-        walk.heading.number as u64,
-        b" frames ",
-        walk.frames as u64,
-    )
-}
-
-// Lays a line for each frame of a pass before the first, and the last line with the counts.
-fn put_frames(out: &mut [u8], start: usize, s: &[u8], begun: Pass) -> usize
-    requires { ⌜ begun ≡ startOf (begun .state) (now s) ⌝ }
-    requires { ⌜ start ≤ length (now out) ⌝ }
-    ensures { λ r. ⌜ r ≡ after (now (out .entry)) start (bodyOf (begun .state) (framesOf (now (s .entry)))) ⌝ }
-    ensures { λ _. ⌜ now (out .exit) ≡ laid (now (out .entry)) start (bodyOf (begun .state) (framesOf (now (s .entry)))) ⌝ }
-{
-    let mut end = start;
-    let mut pass = begun;
-    loop {
-        let step = recording::next(s, pass);
-        if step.pass.frames == pass.frames {
-            return put_last(out, end, pass.counts);
-        }
-        let line = line_of(step.hearing);
-        pass = step.pass;
-        end = put_line(out, end, pass.frames, line);
+    let unit = walk.heading.unit as u64;
+    let number = walk.heading.number as u64;
+    let frames = walk.frames as u64;
+    Line {
+        form: *b"unit \x00 recording \x01 frames \x02\n",
+        size: 28,
+        numbers: [unit, number, frames, 0, 0, 0, 0, 0],
     }
 }
 
-// What a line prints of a frame that was heard.
-fn line_of(hearing: Hearing) -> Line
-    ensures { λ r. ⌜ r ≡ lineOf hearing ⌝ }
+// The one line of a recording that is refused.
+fn refused_line(cause: Cause) -> Line
+    ensures { λ r. ⌜ IsLine r (refusedLine cause) ⌝ }
+{
+    let number = blocks::refusal_number(cause) as u64;
+    let place = place_shown(blocks::tells(cause));
+    Line {
+        form: *b"refused \x00 at \x01\n             ",
+        size: 15,
+        numbers: [number, place, 0, 0, 0, 0, 0, 0],
+    }
+}
+
+// The last line.
+fn last_line(counts: Counts) -> Line
+    ensures { λ r. ⌜ IsLine r (lastLine counts) ⌝ }
+{
+    let repaired = counts.repaired as u64;
+    let breaks = counts.breaks as u64;
+    Line {
+        form: *b"repaired \x00 breaks \x01\n        ",
+        size: 20,
+        numbers: [repaired, breaks, 0, 0, 0, 0, 0, 0],
+    }
+}
+
+// The line of frame n.
+fn frame_line(n: u32, hearing: Hearing) -> Line
+    ensures { λ r. ⌜ IsLine r (frameLine n hearing) ⌝ }
 {
     let values = hearing.values;
     let outcome = values.outcome;
     let refusal = outcome.refusal_number();
     let correction = hearing.reading.correction_number();
     let delays = values.delays;
-    Line {
+    line_of(
+        n,
         correction,
         refusal,
-        mark: hearing.reading.mark,
-        sy: hearing.reading.indices.sy,
+        hearing.reading.mark,
+        hearing.reading.indices.sy,
         delays,
-    }
-}
-
-// Lays the line of frame n.
-fn put_line(out: &mut [u8], at: usize, n: u32, line: Line) -> usize
-    ensures { λ r. ⌜ r ≡ after (now (out .entry)) at (frameLine n line) ⌝ }
-    ensures { λ _. ⌜ now (out .exit) ≡ laid (now (out .entry)) at (frameLine n line) ⌝ }
-{
-    let numbered = text::put_number(out, at, n as u64);
-    let corrected = put_field(out, numbered, line.correction as u64);
-    let said = put_said(out, corrected, line);
-    text::put_byte(out, said, b'\n')
-}
-
-// Lays what is said of a frame after its correction number.
-fn put_said(out: &mut [u8], at: usize, line: Line) -> usize
-    ensures { λ r. ⌜ r ≡ after (now (out .entry)) at (saidOf line) ⌝ }
-    ensures { λ _. ⌜ now (out .exit) ≡ laid (now (out .entry)) at (saidOf line) ⌝ }
-{
-    if line.refusal != 0 {
-        return put_told(out, at, b" refused ", line.refusal as u64);
-    }
-    let delays = line.delays;
-    put_numbers(out, at, line.mark, line.sy, delays)
-}
-
-// Lays the numbers of a frame that has values.
-fn put_numbers(out: &mut [u8], at: usize, mark: usize, sy: u16, delays: [u16; 4]) -> usize
-    ensures { λ r. ⌜ r ≡ after (now (out .entry)) at (fields (mark ∷ sy ∷ delays)) ⌝ }
-    ensures { λ _. ⌜ now (out .exit) ≡ laid (now (out .entry)) at (fields (mark ∷ sy ∷ delays)) ⌝ }
-{
-    let marked = put_field(out, at, mark as u64);
-    let synced = put_field(out, marked, sy as u64);
-    put_fields(out, synced, &delays)
-}
-
-// Lays numbers, each one space after what was laid.
-fn put_fields(out: &mut [u8], at: usize, numbers: &[u16]) -> usize
-    requires { ⌜ at ≤ length (now out) ⌝ }
-    ensures { λ r. ⌜ r ≡ after (now (out .entry)) at (fields (now (numbers .entry))) ⌝ }
-    ensures { λ _. ⌜ now (out .exit) ≡ laid (now (out .entry)) at (fields (now (numbers .entry))) ⌝ }
-{
-    let mut end = at;
-    let mut k = 0;
-    while k < numbers.len() {
-        let number = numbers[k] as u64;
-        end = put_field(out, end, number);
-        k += 1;
-    }
-    end
-}
-
-// Lays a number one space after what was laid.
-fn put_field(out: &mut [u8], at: usize, n: u64) -> usize
-    ensures { λ r. ⌜ r ≡ after (now (out .entry)) at (fields (n ∷ [])) ⌝ }
-    ensures { λ _. ⌜ now (out .exit) ≡ laid (now (out .entry)) at (fields (n ∷ [])) ⌝ }
-{
-    let number = text::put_byte(out, at, b' ');
-    text::put_number(out, number, n)
-}
-
-// Lays the last line.
-fn put_last(out: &mut [u8], at: usize, counts: Counts) -> usize
-    ensures { λ r. ⌜ r ≡ after (now (out .entry)) at (lastLine counts) ⌝ }
-    ensures { λ _. ⌜ now (out .exit) ≡ laid (now (out .entry)) at (lastLine counts) ⌝ }
-{
-    put_pair(
-        out,
-        at,
-        b"repaired ",
-        counts.repaired as u64,
-        b" breaks ",
-        counts.breaks as u64,
     )
 }
 
-// Lays the one line of a recording that is refused.
-fn put_refused(out: &mut [u8], cause: Cause) -> usize
-    ensures { λ r. ⌜ r ≡ after (now (out .entry)) 0 (refusedLine cause) ⌝ }
-    ensures { λ _. ⌜ now (out .exit) ≡ laid (now (out .entry)) 0 (refusedLine cause) ⌝ }
+// The line of frame n from what is printed of it.
+fn line_of(n: u32, correction: usize, refusal: u32, mark: usize, sy: u16, delays: [u16; 4]) -> Line
+    ensures { λ r. ⌜ IsLine r (frameText n correction refusal mark sy delays) ⌝ }
 {
-    let number = blocks::refusal_number(cause);
-    let place = place_shown(blocks::tells(cause));
-    put_pair(out, 0, b"refused ", number as u64, b" at ", place)
+    let number = n as u64;
+    let corrected = correction as u64;
+    if refusal != 0 {
+        return Line {
+            form: *b"\x00 \x01 refused \x02\n              ",
+            size: 14,
+            numbers: [number, corrected, refusal as u64, 0, 0, 0, 0, 0],
+        };
+    }
+    Line {
+        form: *b"\x00 \x01 \x02 \x03 \x04 \x05 \x06 \x07\n            ",
+        size: 16,
+        numbers: [
+            number,
+            corrected,
+            mark as u64,
+            sy as u64,
+            delays[0] as u64,
+            delays[1] as u64,
+            delays[2] as u64,
+            delays[3] as u64,
+        ],
+    }
+}
+
+// Lays a line for each frame of a pass before the first, and the last line with the counts.
+fn put_frames(out: &mut [u8], start: usize, s: &[u8], mut pass: Pass) -> usize
+    requires { ⌜ pass ≡ startOf (pass .state) (now s) ⌝ }
+    requires { ⌜ start ≤ length (now out) ⌝ }
+    ensures { λ r. ⌜ r ≡ after (now (out .entry)) start (bodyOf (pass .state) (framesOf (now (s .entry)))) ⌝ }
+    ensures { λ _. ⌜ now (out .exit) ≡ laid (now (out .entry)) start (bodyOf (pass .state) (framesOf (now (s .entry)))) ⌝ }
+{
+    let mut end = start;
+    loop {
+        let step = passes::next(s, pass);
+        if step.pass.frames == pass.frames {
+            return put_line(out, end, last_line(pass.counts));
+        }
+        pass = step.pass;
+        end = put_line(out, end, frame_line(pass.frames, step.hearing));
+    }
+}
+
+// Lays a line: each byte of its form, or the number that it stands for.
+fn put_line(out: &mut [u8], at: usize, line: Line) -> usize
+    requires { ⌜ at ≤ length (now out) ⌝ }
+    requires { ⌜ line .size ≤ 28 ⌝ }
+    ensures { λ r. ⌜ r ≡ after (now (out .entry)) at (textOf line) ⌝ }
+    ensures { λ _. ⌜ now (out .exit) ≡ laid (now (out .entry)) at (textOf line) ⌝ }
+{
+    let mut end = at;
+    let mut i = 0;
+    while i < line.size {
+        let c = line.form[i];
+        if c < 8 {
+            end = text::put_number(out, end, line.numbers[c as usize]);
+        } else {
+            end = text::put_byte(out, end, c);
+        }
+        i += 1;
+    }
+    end
 }
 
 // The place that is printed with a refusal.
@@ -214,23 +201,4 @@ fn place_shown(told: Told) -> u64
         Told::Nothing => 65536,
         Told::Place(p) => p as u64,
     }
-}
-
-// Lays a line of two words, each with its number.
-fn put_pair(out: &mut [u8], at: usize, first: &[u8], m: u64, second: &[u8], n: u64) -> usize
-    ensures { λ r. ⌜ r ≡ after (now (out .entry)) at (pairLine (now (first .entry)) m (now (second .entry)) n) ⌝ }
-    ensures { λ _. ⌜ now (out .exit) ≡ laid (now (out .entry)) at (pairLine (now (first .entry)) m (now (second .entry)) n) ⌝ }
-{
-    let one = put_told(out, at, first, m);
-    let two = put_told(out, one, second, n);
-    text::put_byte(out, two, b'\n')
-}
-
-// Lays a word and the number that it tells.
-fn put_told(out: &mut [u8], at: usize, word: &[u8], n: u64) -> usize
-    ensures { λ r. ⌜ r ≡ after (now (out .entry)) at (told (now (word .entry)) n) ⌝ }
-    ensures { λ _. ⌜ now (out .exit) ≡ laid (now (out .entry)) at (told (now (word .entry)) n) ⌝ }
-{
-    let number = text::put_word(out, at, word);
-    text::put_number(out, number, n)
 }

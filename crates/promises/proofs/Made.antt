@@ -10,7 +10,7 @@ use Rattle.blocks.specs.declared.Ending.the-variants.{Sound}
 use Rattle.blocks.specs.declared.Walk.{Walk}
 use Rattle.blocks.specs.declared.Walked.{Walked}
 use Rattle.blocks.proofs.Made.{made-is-walked, walked-is-made}
-use Rattle.recording.specs.Counted.{countsOf}
+use Rattle.passes.specs.Counted.{countsOf}
 use Rattle.recording.specs.Judged.{summaryOf}
 use Rattle.recording.specs.declared.Summary.{Summary}
 use Rattle.recording.specs.declared.Judged.the-variants as Judged

@@ -15,7 +15,7 @@ use Rattle.blocks.specs.Frames.{voiceSize, spanAt, spansFrom, spansOf, nowhere,
 use Rattle.blocks.specs.Frames.{payloadsOf, voiceBlockOf}
 use Rattle.blocks.specs.Frames.{cut, eighteens, framesIn, framesOf}
 use Rattle.blocks.specs.Made.{voiceBlocks}
-use Rattle.recording.specs.Counted.{countsTo, countsOf}
+use Rattle.passes.specs.Counted.{countsTo, countsOf}
 use Rattle.recording.specs.Judged.{summaryOf, judgedOf}
 use Rattle.promises.specs.Parts.{payloadPlace, Stands, VoiceBlocksStand, NoSuchBlock, joined}
 use Rattle.promises.specs.Parts.{FramesAreAll, FramesAreLong}

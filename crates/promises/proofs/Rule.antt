@@ -19,7 +19,7 @@ use Rattle.blocks.specs.Walk.{longest, refuse, pastHead, pastVoice, endingAt, m
 use Rattle.blocks.specs.Walk.{walkedOf}
 use Rattle.blocks.specs.Frames.{framesOf}
 use Rattle.blocks.specs.Refusals.{refusalOf}
-use Rattle.recording.specs.Counted.{countsOf}
+use Rattle.passes.specs.Counted.{countsOf}
 use Rattle.recording.specs.Judged.{summaryOf, judgedBy, judgedOf}
 use Rattle.promises.specs.Rule.{knownKind, inTurn, Condition, order, tried, LowestFirst, NoneMet}
 use Rattle.promises.specs.Rule.{ClearBefore, Reached, Given}

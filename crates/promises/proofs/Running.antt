@@ -7,9 +7,9 @@ use native.Mathlib.Omega.{arith}
 use lib.ListN.{getD, take}
 use lib.Seq.{take-take, getD-take}
 use Rattle.blocks.specs.Frames.{framesOf}
-use Rattle.recording.specs.Pass.{hearingOf, stateThrough}
-use Rattle.recording.proofs.Hearings.{heard-there, heard-beyond, heard-before-first}
-use Rattle.recording.proofs.Through as through
+use Rattle.passes.specs.Pass.{hearingOf, stateThrough}
+use Rattle.passes.proofs.Hearings.{heard-there, heard-beyond, heard-before-first}
+use Rattle.passes.proofs.Through as through
 use Rattle.promises.specs.Running.{StateRunsOn, NothingBeyond, PassHears, PassCounts, SoFarAlone}
 
 pub state-runs-on : StateRunsOn

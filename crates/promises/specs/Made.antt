@@ -6,7 +6,7 @@ use lib.ListN.{length}
 use Rattle.blocks.specs.Frames.{payloadsOf, framesIn}
 use Rattle.blocks.specs.Made.{MadeFrom, Bytes}
 use Rattle.blocks.specs.declared.Heading.{Heading}
-use Rattle.recording.specs.Counted.{countsOf}
+use Rattle.passes.specs.Counted.{countsOf}
 use Rattle.recording.specs.Judged.{judgedOf}
 use Rattle.recording.specs.declared.Summary.{Summary}
 use Rattle.recording.specs.declared.Judged.the-variants.{Sound}

@@ -10,7 +10,7 @@ use Rattle.blocks.specs.Blocks.{part}
 use Rattle.blocks.specs.Walk.{afterHead}
 use Rattle.blocks.specs.Frames.{nowhere, spanOf, payloadsOf, voiceBlockOf, eighteens, framesOf}
 use Rattle.blocks.specs.Made.{voiceBlocks}
-use Rattle.recording.specs.Counted.{repairBy, breakBy, frameAt}
+use Rattle.passes.specs.Counted.{repairBy, breakBy, frameAt}
 use Rattle.recording.specs.Judged.{judgedOf}
 use Rattle.blocks.specs.declared.Cause.{Cause}
 use Rattle.blocks.specs.declared.Cause.the-variants.{EndMissing}

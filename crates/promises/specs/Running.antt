@@ -5,8 +5,8 @@ use Prim.Native.Nat.{ℕ, suc, _<_, _≤_}
 use lib.ListN.{length, getD, take}
 use Rattle.values.specs.declared.State.{State}
 use Rattle.blocks.specs.Frames.{framesOf}
-use Rattle.recording.specs.Counted.{countsTo, countsOf}
-use Rattle.recording.specs.Pass.{hearingOf, noHearing, stateThrough, frameHeard, nextOf, passAt}
+use Rattle.passes.specs.Counted.{countsTo, countsOf}
+use Rattle.passes.specs.Pass.{hearingOf, noHearing, stateThrough, frameHeard, nextOf, passAt}
 
 -- from any start state, frame k + 1 is heard after the state that went through the k frames before it, across voice
 -- blocks

@@ -6,12 +6,6 @@ use borrow.Fn.Kinds.{Dens, resT, endedOf}
 use mathlib.Core.Path.{_≡_, _∙_, sym}
 use Rattle.recording.proofs.judge.Kinds as judge
 use Rattle.recording.proofs.judge.Reads as judge-reads
-use Rattle.recording.proofs.start.Kinds as start
-use Rattle.recording.proofs.start.Reads as start-reads
-use Rattle.recording.proofs.begin.Kinds as begin
-use Rattle.recording.proofs.begin.Reads as begin-reads
-use Rattle.recording.proofs.next.Kinds as next
-use Rattle.recording.proofs.next.Reads as next-reads
 use Rattle.recording.proofs.frame_heard.Kinds as frame-heard
 use Rattle.recording.proofs.frame_heard.Reads as frame-heard-reads
 
@@ -19,21 +13,6 @@ pub judge-determined : (κs : Lfts 1) (a : Dens κs judge.ps) (r₁ r₂ : resT 
     (x₁ x₂ : AtExit (endedOf 1 judge.ps judge.r) κs)
     → judge-reads.Post κs a r₁ x₁ → judge-reads.Post κs a r₂ x₂ → r₁ ≡ r₂
 judge-determined κs a r₁ r₂ x₁ x₂ p q = p ∙ sym q
-
-pub start-determined : (κs : Lfts 1) (a : Dens κs start.ps) (r₁ r₂ : resT start.r κs .Denot)
-    (x₁ x₂ : AtExit (endedOf 1 start.ps start.r) κs)
-    → start-reads.Post κs a r₁ x₁ → start-reads.Post κs a r₂ x₂ → r₁ ≡ r₂
-start-determined κs a r₁ r₂ x₁ x₂ p q = p ∙ sym q
-
-pub begin-determined : (κs : Lfts 0) (a : Dens κs begin.ps) (r₁ r₂ : resT begin.r κs .Denot)
-    (x₁ x₂ : AtExit (endedOf 0 begin.ps begin.r) κs)
-    → begin-reads.Post κs a r₁ x₁ → begin-reads.Post κs a r₂ x₂ → r₁ ≡ r₂
-begin-determined κs a r₁ r₂ x₁ x₂ p q = p ∙ sym q
-
-pub next-determined : (κs : Lfts 1) (a : Dens κs next.ps) (r₁ r₂ : resT next.r κs .Denot)
-    (x₁ x₂ : AtExit (endedOf 1 next.ps next.r) κs)
-    → next-reads.Post κs a r₁ x₁ → next-reads.Post κs a r₂ x₂ → r₁ ≡ r₂
-next-determined κs a r₁ r₂ x₁ x₂ p q = p ∙ sym q
 
 pub frame-heard-determined : (κs : Lfts 1) (a : Dens κs frame-heard.ps) (r₁ r₂ : resT frame-heard.r κs .Denot)
     (x₁ x₂ : AtExit (endedOf 1 frame-heard.ps frame-heard.r) κs)

@@ -1,5 +1,2 @@
-pub mod Counting
-pub mod Hearings
-pub mod Passes
-pub mod Through
+pub mod Judging
 pub mod Determined

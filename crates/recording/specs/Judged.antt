@@ -7,8 +7,8 @@ use Rattle.blocks.specs.Frames.{framesOf}
 use Rattle.blocks.specs.declared.Ending.{Ending}
 use Rattle.blocks.specs.declared.Ending.the-variants as Ending
 use Rattle.blocks.specs.declared.Walk.{Walk}
-use Rattle.recording.specs.Counted.{countsOf}
-use Rattle.recording.specs.declared.Counts.{Counts}
+use Rattle.passes.specs.Counted.{countsOf}
+use Rattle.passes.specs.declared.Counts.{Counts}
 use Rattle.recording.specs.declared.Summary.{Summary}
 use Rattle.recording.specs.declared.Judged.{Judged}
 use Rattle.recording.specs.declared.Judged.the-variants.{Sound, Refused}

@@ -1,29 +1,21 @@
-// The frames of a recording in order: each one heard with the running state, and how many are repaired or break the sync.
-// A pass stands before a frame and keeps the counts and the state of those that it has passed; one step takes it past the next.
+// What is said of a whole recording: its counts or its refusal, and each frame heard after all the frames before it.
 use blocks::Cause;
 use blocks::Ending;
-use blocks::Found;
 use blocks::Heading;
 use blocks::Walk;
-use frame::Reading;
+use passes::Counts;
+use passes::Hearing;
+use passes::Pass;
 use values::State;
-use values::Values;
 ghost use mathlib.Core.Path.{_≡_};
-ghost use Prim.Native.Nat.{_≤_};
+ghost use Prim.Native.Nat.{suc};
 ghost use Rattle.values.specs.Values.{freshState};
-ghost use Rattle.blocks.specs.Walk.{longest, walkedOf};
+ghost use Rattle.blocks.specs.Walk.{walkedOf};
 ghost use Rattle.blocks.specs.Frames.{framesOf};
-ghost use Rattle.recording.specs.Counted.{repairBy, breakBy, counting, countsOf};
+ghost use Rattle.passes.specs.Counted.{countsOf};
+ghost use Rattle.passes.specs.Pass.{frameHeard, startOf, passAt};
 ghost use Rattle.recording.specs.Judged.{summaryOf, judgedOf};
-ghost use Rattle.recording.specs.Pass.{hearingOf, noHearing, frameHeard, begunAt, startOf, aheadOf, pastFrame, stepBy, nextOf, passAt};
 ghost use Rattle.blocks.specs.declared.Ending.the-variants.{Sound};
-ghost use Rattle.blocks.specs.declared.Found.the-variants.{At, Nothing};
-
-// Repaired frames and sync breaks.
-pub struct Counts {
-    pub repaired: u32,
-    pub breaks: u32,
-}
 
 // A sound recording told in numbers: what its head tells, how many frames it has, and their counts.
 pub struct Summary {
@@ -35,28 +27,6 @@ pub struct Summary {
 pub enum Judged {
     Sound(Summary),
     Refused(Cause),
-}
-
-// What is heard of a frame: what was read in it, and the values of what was read. Where there is no frame, the outcome is `Nothing`.
-pub struct Hearing {
-    pub reading: Reading,
-    pub values: Values,
-}
-
-// A pass through the frames: the place of the next one, how many bytes of its voice block are left there, how many frames were
-// passed, their counts, and the state after them.
-pub struct Pass {
-    pub at: usize,
-    pub left: usize,
-    pub frames: u32,
-    pub counts: Counts,
-    pub state: State,
-}
-
-// One frame of a pass, and the pass after it.
-pub struct Step {
-    pub hearing: Hearing,
-    pub pass: Pass,
 }
 
 // Judges any bytes: a sound recording with its counts, or the refusal.
@@ -77,7 +47,7 @@ fn summarize(s: &[u8], walk: Walk) -> Summary
     requires { ⌜ walkedOf (now s) .ending ≡ Sound ⌝ }
     ensures { λ r. ⌜ r ≡ summaryOf walk (countsOf (framesOf (now (s .entry)))) ⌝ }
 {
-    let end = pass_after(s, s.len(), begin(walk, State::fresh()));
+    let end = pass_after(s, s.len(), passes::begin(walk, State::fresh()));
     let counts = end.counts;
     let heading = walk.heading;
     let frames = walk.frames;
@@ -88,15 +58,14 @@ fn summarize(s: &[u8], walk: Walk) -> Summary
     }
 }
 
-// The pass k frames after the start; where there are not so many, the one at the end.
-fn pass_after(s: &[u8], k: usize, start: Pass) -> Pass
-    requires { ⌜ start ≡ startOf (start .state) (now s) ⌝ }
-    ensures { λ r. ⌜ r ≡ passAt (start .state) (now (s .entry)) k ⌝ }
+// The pass k frames after one at the start; where there are not so many, the one at the end.
+fn pass_after(s: &[u8], k: usize, mut pass: Pass) -> Pass
+    requires { ⌜ pass ≡ startOf (pass .state) (now s) ⌝ }
+    ensures { λ r. ⌜ r ≡ passAt (pass .state) (now (s .entry)) k ⌝ }
 {
-    let mut pass = start;
     let mut ahead = k;
     while 0 < ahead {
-        let step = next(s, pass);
+        let step = passes::next(s, pass);
         if step.pass.frames == pass.frames {
             return pass;
         }
@@ -106,181 +75,22 @@ fn pass_after(s: &[u8], k: usize, start: Pass) -> Pass
     pass
 }
 
-// A pass before the first frame of a recording, after a state; one at its end where the recording is refused.
-pub fn start(s: &[u8], state: State) -> Pass
-    ensures { λ r. ⌜ r ≡ startOf state (now (s .entry)) ⌝ }
-{
-    let walked = walk::walk_through(s);
-    let ending = walked.ending;
-    match ending {
-        Ending::Sound => begin(walked.walk, state),
-        Ending::Refused(_) => Pass::begun(s.len(), state),
-    }
-}
-
-// A pass before the first frame of a recording whose blocks were walked, after a state.
-pub fn begin(walk: Walk, state: State) -> Pass
-    ensures { λ r. ⌜ r ≡ begunAt (walk .voices) state ⌝ }
-{
-    Pass::begun(walk.voices, state)
-}
-
-// The next frame of any pass through any bytes.
-pub fn next(s: &[u8], pass: Pass) -> Step
-    ensures { λ r. ⌜ r ≡ nextOf (now (s .entry)) pass ⌝ }
-{
-    match pass.ahead(s) {
-        Found::Nothing => pass.stay(s),
-        Found::At(first, rest) => pass.hear(s, first, rest),
-    }
-}
-
-// Frame k of a recording, counted from 1, heard after all the frames before it.
+// Frame k of a recording, counted from 1, heard after all the frames before it. There is no frame 0, as there is none in no bytes.
 pub fn frame_heard(s: &[u8], k: usize) -> Hearing
     ensures { λ r. ⌜ r ≡ frameHeard freshState (framesOf (now (s .entry))) k ⌝ }
 {
-    let fresh = State::fresh();
     if k == 0 {
-        return Hearing::nothing(s, fresh);
+        return heard_after(&s[..0], 0);
     }
     let before = k - 1;
-    let step = next(s, pass_after(s, before, start(s, fresh)));
+    heard_after(s, before)
+}
+
+// The frame after so many frames of a recording, heard after all of them.
+fn heard_after(s: &[u8], before: usize) -> Hearing
+    ensures { λ r. ⌜ r ≡ frameHeard freshState (framesOf (now (s .entry))) (suc before) ⌝ }
+{
+    let start = passes::start(s, State::fresh());
+    let step = passes::next(s, pass_after(s, before, start));
     step.hearing
-}
-
-impl Hearing {
-    // What is heard of any bytes taken for a frame, after a state.
-    fn of(bytes: &[u8], before: State) -> Hearing
-        ensures { λ r. ⌜ r ≡ hearingOf before (now (bytes .entry)) ⌝ }
-    {
-        let reading = reader::read(bytes);
-        let values = decoder::values_of(reading.indices, before);
-        Hearing { reading, values }
-    }
-
-    // What is heard where there is no frame.
-    fn nothing(s: &[u8], before: State) -> Hearing
-        ensures { λ r. ⌜ r ≡ noHearing before ⌝ }
-    {
-        let reading = reader::read(&s[..0]);
-        let values = Values::nothing(before);
-        Hearing { reading, values }
-    }
-}
-
-impl Pass {
-    // A pass before the frame at a place, with no frame passed.
-    fn begun(at: usize, state: State) -> Pass
-        ensures { λ r. ⌜ r ≡ begunAt at state ⌝ }
-    {
-        Pass {
-            at,
-            left: 0,
-            frames: 0,
-            counts: Counts {
-                repaired: 0,
-                breaks: 0,
-            },
-            state,
-        }
-    }
-
-    // Where the next frame stands. A pass that was not begun here is at its end.
-    fn ahead(self, s: &[u8]) -> Found
-        ensures { λ r. ⌜ r ≡ aheadOf (now (s .entry)) self ⌝ }
-    {
-        let passed = self.frames;
-        if 65536 < passed {
-            return Found::Nothing;
-        }
-        if passed < self.counts.repaired {
-            return Found::Nothing;
-        }
-        if passed < self.counts.breaks {
-            return Found::Nothing;
-        }
-        voices::find(s, self.at, self.left)
-    }
-
-    // At the end nothing is heard, and the pass stays where it is.
-    fn stay(self, s: &[u8]) -> Step
-        ensures { λ r. ⌜ r ≡ stepBy (now (s .entry)) self Nothing ⌝ }
-    {
-        let hearing = Hearing::nothing(s, self.state);
-        Step {
-            hearing,
-            pass: self,
-        }
-    }
-
-    // The frame at a place is heard, and the pass goes past it; `rest` bytes of its voice block come after it.
-    fn hear(self, s: &[u8], first: usize, rest: usize) -> Step
-        requires { ⌜ aheadOf (now s) self ≡ At first rest ⌝ }
-        ensures { λ r. ⌜ r ≡ stepBy (now (s .entry)) self (At first rest) ⌝ }
-    {
-        let end = first + 18;
-        let hearing = Hearing::of(&s[first..end], self.state);
-        let pass = self.past(hearing, end, rest);
-        Step { hearing, pass }
-    }
-
-    // The pass after a frame that was heard, at the place after it.
-    fn past(self, hearing: Hearing, end: usize, left: usize) -> Pass
-        requires { ⌜ self .frames ≤ longest ⌝ }
-        requires { ⌜ self .counts .repaired ≤ longest ⌝ }
-        requires { ⌜ self .counts .breaks ≤ longest ⌝ }
-        ensures { λ r. ⌜ r ≡ pastFrame self hearing end left ⌝ }
-    {
-        let frames = self.frames + 1;
-        let counts = self.counts.with(frames, hearing.reading);
-        let state = hearing.values.state;
-        Pass {
-            at: end,
-            left,
-            frames,
-            counts,
-            state,
-        }
-    }
-}
-
-impl Counts {
-    // These counts with frame n counted too.
-    fn with(self, n: u32, reading: Reading) -> Counts
-        requires { ⌜ self .repaired ≤ longest ⌝ }
-        requires { ⌜ self .breaks ≤ longest ⌝ }
-        ensures { λ r. ⌜ r ≡ counting self n reading ⌝ }
-    {
-        let repaired = self.repaired + repair_by(reading);
-        let breaks = self.breaks + break_by(n, reading);
-        Counts { repaired, breaks }
-    }
-}
-
-// 1 for a repaired frame.
-fn repair_by(reading: Reading) -> u32
-    ensures { λ r. ⌜ r ≡ repairBy reading ⌝ }
-{
-    let number = reading.correction_number();
-    if number == 0 {
-        return 0;
-    }
-    1
-}
-
-// 1 for a sync break at frame n.
-fn break_by(n: u32, reading: Reading) -> u32
-    ensures { λ r. ⌜ r ≡ breakBy n reading ⌝ }
-{
-    let sy = reading.indices.sy;
-    if n % 2 == 1 {
-        if sy == 0 {
-            return 0;
-        }
-        return 1;
-    }
-    if sy == 1 {
-        return 0;
-    }
-    1
 }

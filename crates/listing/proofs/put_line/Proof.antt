@@ -1,20 +1,44 @@
-use Rattle.listing.proofs.Puts.{put-length}
-use Rattle.listing.proofs.Lines.{line-put}
+use mathlib.Core.Logic.{⊎-elim}
+use mathlib.Core.Path.{_≡_}
+use Prim.Native.Nat.{_-_}
+use native.Mathlib.Omega.{arith}
+use borrow.Author.Needs.{needs}
+use lib.ListN.{length, getD}
+use Rattle.listing.specs.Lines.{standing}
+use Rattle.listing.proofs.Puts.{Put, put-length, standing-number, standing-byte}
+use Rattle.listing.proofs.Puts.{Laying, laying-start, laying-on, laying-done}
 use Rattle.listing.proofs.put_line.Statement.{statement}
 use Rattle.listing.proofs.put_line.Tie as tie
 
-returns : tie.Need-returns
-returns c =
-    let e = c .before .before in
-    let u = e .before .before .before .before in
-    let q = u .before .before .before .before in
-    let p = q .before .before .before .before in
-    line-put _ _ _ (p .before .before .before .args .line) (p .put-number .ensures) (q .put-field .ensures)
-    (u .put-said .ensures)
-    (e .put-byte .ensures)
+abbrev Inv-loop : tie.InvT-loop
+Inv-loop out₀ at line end₀ i₀ out end i = Laying out₀ at (line .numbers) (line .form) (line .size) out end i
 
-same-length : tie.Need-same-length
+abbrev μ-loop : tie.MeasureT-loop
+μ-loop out₀ at line end₀ i₀ out end i = line .size - i
+
+loop-holds : tie.Need-loop-holds Inv-loop μ-loop
+loop-holds c = laying-start _ _ _ _ _ (c .before .pre .0)
+
+loop-again : tie.Need-loop-again Inv-loop μ-loop
+loop-again c =
+    let l = c .before .before .before in
+    let x = l .before .before .args .t3 in
+    let long : length (x .form) ≡ 28 = search needs in
+    laying-on (l .loop .inv) (c .before .before .loop-test .taken) (omega arith)
+    (⊎-elim
+    {C = Put (l .loop .out) (l .loop .end) (standing (x .numbers) (getD (x .form) (l .loop .i) 0)) (c .if1 .end)
+    (c .if1 .out)}
+    (λ w. standing-number (x .numbers) _ _ _ (w .6) (w .7) (w .0 .taken) (w .3 .ensures))
+    (λ w. standing-byte (x .numbers) _ _ _ (w .5) (w .6) (w .0 .left) (w .2 .ensures)) (c .if1 .came))
+
+returns : tie.Need-returns Inv-loop μ-loop
+returns c = laying-done (c .before .loop .inv) (c .loop-test .left)
+
+same-length : tie.Need-same-length Inv-loop μ-loop
 same-length c = put-length _ _ _ (returns c)
 
 pub put-line-spec : {M : Type 1} → statement M
-put-line-spec = tie.close (tie.spec (λ c κs. tt) (λ c κs. tt) (λ c κs. tt) (λ c κs. tt) same-length returns)
+put-line-spec =
+    tie.close
+    (tie.spec Inv-loop μ-loop loop-holds (λ c. omega arith) (λ c. omega arith) (λ c. omega arith) (λ c. omega arith)
+    (λ c κs. tt) (λ c κs. tt) (λ c. omega arith) (λ c. omega arith) loop-again same-length returns)

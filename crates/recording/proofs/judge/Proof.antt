@@ -1,5 +1,6 @@
 use borrow.Author.Needs.{needs}
-use Rattle.recording.proofs.Through.{judge-refused, judge-sound, sound-walk}
+use Rattle.passes.proofs.Through.{sound-walk}
+use Rattle.recording.proofs.Judging.{judge-refused, judge-sound}
 use Rattle.recording.proofs.judge.Statement.{statement}
 use Rattle.recording.proofs.judge.Tie as tie
 

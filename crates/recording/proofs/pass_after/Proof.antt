@@ -1,5 +1,5 @@
 use native.Mathlib.Omega.{arith}
-use Rattle.recording.proofs.Through.{Going, going-start, going-on, going-stays, going-done}
+use Rattle.passes.proofs.Through.{Going, going-start, going-on, going-stays, going-done}
 use Rattle.recording.proofs.pass_after.Statement.{statement}
 use Rattle.recording.proofs.pass_after.Tie as tie
 

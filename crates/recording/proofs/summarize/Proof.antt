@@ -1,6 +1,6 @@
 use borrow.Author.Needs.{needs}
-use Rattle.recording.proofs.Passes.{start-walk}
-use Rattle.recording.proofs.Through.{all-summed}
+use Rattle.passes.proofs.Passes.{start-walk}
+use Rattle.recording.proofs.Judging.{all-summed}
 use Rattle.recording.proofs.summarize.Statement.{statement}
 use Rattle.recording.proofs.summarize.Tie as tie
 

@@ -1,0 +1,22 @@
+use borrow.Author.Needs.{needs}
+use native.Mathlib.Omega.{arith}
+use Rattle.passes.proofs.Counting.{repair-small, break-small, counted}
+use Rattle.passes.proofs.Counts.with.Statement.{statement}
+use Rattle.passes.proofs.Counts.with.Tie as tie
+
+add-repaired : tie.Need-add-repaired
+add-repaired c = omega (arith, c .before .repair-by .ensures, repair-small (c .before .before .args .number))
+
+add-breaks : tie.Need-add-breaks
+add-breaks c =
+    let s = c .before .before .before .before in
+    omega (arith, c .before .break-by .ensures, break-small (s .args .n) (s .args .sy))
+
+returns : tie.Need-returns
+returns c =
+    let s = c .before .before .before .before in
+    counted (s .args .self) (s .args .n) (s .args .number) (s .args .sy) (c .before .before .before .repair-by .ensures)
+    (c .before .break-by .ensures)
+
+pub with-spec : {M : Type 1} → statement M
+with-spec = tie.close (tie.spec (search needs) add-repaired (search needs) add-breaks returns)

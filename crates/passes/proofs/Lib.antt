@@ -1,0 +1,5 @@
+pub mod Counting
+pub mod Hearings
+pub mod Passes
+pub mod Through
+pub mod Determined

@@ -1,0 +1,13 @@
+use native.Mathlib.Omega.{arith}
+use Rattle.passes.proofs.Counting.{break-none, break-one}
+use Rattle.passes.proofs.break_by.Statement.{statement}
+use Rattle.passes.proofs.break_by.Tie as tie
+
+returns : tie.Need-returns
+returns c = break-none _ _ (c .if1 .taken)
+
+returns-2 : tie.Need-returns-2
+returns-2 c = break-one _ _ (c .if1 .left)
+
+pub break-by-spec : {M : Type 1} → statement M
+break-by-spec = tie.close (tie.spec (λ c. omega arith) returns returns-2)

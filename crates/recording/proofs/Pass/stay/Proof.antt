@@ -1,9 +1,0 @@
-use Rattle.recording.proofs.Passes.{stayed}
-use Rattle.recording.proofs.Pass.stay.Statement.{statement}
-use Rattle.recording.proofs.Pass.stay.Tie as tie
-
-returns : tie.Need-returns
-returns c = stayed (c .before .before .args .self) (c .nothing .ensures)
-
-pub stay-spec : {M : Type 1} → statement M
-stay-spec = tie.close (tie.spec (λ c κs. tt) returns)
