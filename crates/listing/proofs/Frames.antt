@@ -2,11 +2,10 @@
 -- Assumes nothing.
 use mathlib.Core.Path.{_≡_, _∙_, sym, refl, ap, ap₂}
 use mathlib.Core.List.{List, [], _++_}
-use Prim.Native.Nat.{ℕ, zero, suc, _≤_}
+use Prim.Native.Nat.{ℕ, suc, _≤_}
 use lib.ListN.{length}
 use Rattle.values.specs.declared.State.{State}
 use Rattle.blocks.specs.Frames.{framesOf}
-use Rattle.passes.specs.Counted.{countsOf}
 use Rattle.passes.specs.Pass.{frameHeard, startOf, nextOf}
 use Rattle.passes.specs.declared.Counts.{Counts}
 use Rattle.passes.specs.declared.Hearing.{Hearing}

@@ -3,8 +3,8 @@
 use mathlib.Core.Path.{_≡_, _∙_, sym, refl, ap}
 use mathlib.Core.List.{List, [], _∷_, _++_, append-assoc, append-nil}
 use Prim.Native.Nat.{ℕ}
-use borrow.Author.Tests.{eq-eqb, ne-eqb}
-use lib.ListN.{length, getD, take}
+use borrow.Author.Tests.{ne-eqb}
+use lib.ListN.{length, getD}
 use Rattle.laws.specs.Tabulate.{tabulateFrom}
 use Rattle.laws.proofs.Tabulate.{own-entries}
 use Rattle.frame.specs.Answers.{correctionNumber}

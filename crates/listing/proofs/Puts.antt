@@ -11,7 +11,7 @@ use lib.Seq.{take-suc}
 use Rattle.text.specs.Decimal.{decimal}
 use Rattle.text.specs.Laid.{laid, after}
 use Rattle.text.proofs.Laid.{length-laid, laid-none, put-then}
-use Rattle.listing.specs.Lines.{standing, filledIn}
+use Rattle.listing.specs.Lines.{shownBy, filledIn}
 
 -- a text is laid at a position: the position after it, and the buffer then
 abbrev pub Put : List ℕ → ℕ → List ℕ → ℕ → List ℕ → Type 0
@@ -40,8 +40,8 @@ module _ (numbers : List ℕ) where
   unfolding filledIn
   filled-join [] g = refl
   filled-join (c ∷ f) g =
-      ap (λ (l : List ℕ). standing numbers c ++ l) (filled-join f g)
-      ∙ sym (append-assoc (standing numbers c) (filledIn numbers f) (filledIn numbers g))
+      ap (λ (l : List ℕ). shownBy numbers c ++ l) (filled-join f g)
+      ∙ sym (append-assoc (shownBy numbers c) (filledIn numbers f) (filledIn numbers g))
 
   -- of no form nothing is laid
   filled-none : [] ≡ filledIn numbers []
@@ -49,20 +49,20 @@ module _ (numbers : List ℕ) where
   filled-none = refl
 
   -- of a form of one byte what it stands for
-  filled-one : (c : ℕ) → standing numbers c ≡ filledIn numbers (c ∷ [])
+  filled-one : (c : ℕ) → shownBy numbers c ≡ filledIn numbers (c ∷ [])
   unfolding filledIn
-  filled-one c = sym (append-nil (standing numbers c))
+  filled-one c = sym (append-nil (shownBy numbers c))
 
   -- the two ways of a turn of `put_line`: a number, or a byte as it is
   module _ (o : List ℕ) (at c : ℕ) {at′ end : ℕ} {o′ out : List ℕ} (stays : out ≡ o′) (ends : end ≡ at′) where
     -- a byte below 8 stands for its number
-    pub standing-number : c < 8 → Put o at (decimal (getD numbers c 0)) at′ o′ → Put o at (standing numbers c) end out
-    standing-number h p =
-        put-as o at (decimal (getD numbers c 0)) (standing numbers c) (rw (lt-ltb c 8 h)) (ends ∙ p .0, stays ∙ p .1)
+    pub shown-number : c < 8 → Put o at (decimal (getD numbers c 0)) at′ o′ → Put o at (shownBy numbers c) end out
+    shown-number h p =
+        put-as o at (decimal (getD numbers c 0)) (shownBy numbers c) (rw (lt-ltb c 8 h)) (ends ∙ p .0, stays ∙ p .1)
 
     -- any other stands for itself
-    pub standing-byte : 8 ≤ c → Put o at (c ∷ []) at′ o′ → Put o at (standing numbers c) end out
-    standing-byte h p = put-as o at (c ∷ []) (standing numbers c) (rw (le-ltb c 8 h)) (ends ∙ p .0, stays ∙ p .1)
+    pub shown-byte : 8 ≤ c → Put o at (c ∷ []) at′ o′ → Put o at (shownBy numbers c) end out
+    shown-byte h p = put-as o at (c ∷ []) (shownBy numbers c) (rw (le-ltb c 8 h)) (ends ∙ p .0, stays ∙ p .1)
 
 -- the loop of `put_line`: what the first k bytes of the form stand for is laid
 pub record Laying (o : List ℕ) (at : ℕ) (numbers form : List ℕ) (size : ℕ) (o′ : List ℕ) (end k : ℕ) : Type 0 where
@@ -82,12 +82,12 @@ module _ {o : List ℕ} {at : ℕ} {numbers form : List ℕ} {size : ℕ} {o′ 
     (l : Laying o at numbers form size o′ end k) where
   -- a turn lays what one byte more stands for
   pub laying-on : k < size → k < length form → {o″ : List ℕ} {end′ : ℕ}
-      → Put o′ end (standing numbers (getD form k 0)) end′ o″
+      → Put o′ end (shownBy numbers (getD form k 0)) end′ o″
       → Laying o at numbers form size o″ end′ (k + 1)
   laying-on h w p =
       record {
         put =
-            put-as o at (filledIn numbers (take k form) ++ standing numbers (getD form k 0))
+            put-as o at (filledIn numbers (take k form) ++ shownBy numbers (getD form k 0))
             (filledIn numbers (take (k + 1) form))
             (ap (λ (t : List ℕ). filledIn numbers (take k form) ++ t) (filled-one numbers (getD form k 0))
             ∙ sym (filled-join numbers (take k form) (getD form k 0 ∷ []))

@@ -15,7 +15,7 @@ use Rattle.values.specs.declared.State.{State}
 use Rattle.values.specs.declared.Outcome.{Outcome}
 use Rattle.values.specs.declared.Outcome.the-variants as Outcome
 use Rattle.values.proofs.Laws.{delays-four, delays-most}
-use Rattle.blocks.specs.Walk.{longest, walkedOf}
+use Rattle.blocks.specs.Walk.{walkedOf}
 use Rattle.blocks.specs.Frames.{framesOf}
 use Rattle.blocks.specs.Refusals.{refusalOf, toldOf}
 use Rattle.blocks.specs.declared.Cause.{Cause}
@@ -38,7 +38,7 @@ use Rattle.listing.specs.Lines.{pairLine, headLine, fields, saidOf, fram
 use Rattle.listing.specs.Lines.{placeShown, refusedLine}
 use Rattle.listing.specs.Listing.{linesTo, bodyOf, soundText, textBy, listingOf, room}
 use Rattle.listing.specs.Promised.{ListingFits}
-use Rattle.listing.proofs.Told.{Placed, Small, walked-small, walked-placed}
+use Rattle.listing.proofs.Told.{Placed, walked-small, walked-placed}
 
 -- ---- lines of words and numbers
 

@@ -66,12 +66,12 @@ unfoldable pub refusedLine : Cause → List ℕ
 refusedLine cause = pairLine (ascii "refused ") (refusalOf cause) (ascii " at ") (placeShown (toldOf cause))
 
 -- a step of the code: a line by its form. A byte below 8 stands for the number at that place, any other for itself.
-abbrev pub standing : List ℕ → ℕ → List ℕ
-standing numbers c = cond (ltb c 8) (decimal (getD numbers c 0)) (c ∷ [])
+abbrev pub shownBy : List ℕ → ℕ → List ℕ
+shownBy numbers c = cond (ltb c 8) (decimal (getD numbers c 0)) (c ∷ [])
 
 unfoldable pub filledIn : List ℕ → List ℕ → List ℕ
 filledIn numbers [] = []
-filledIn numbers (c ∷ form) = standing numbers c ++ filledIn numbers form
+filledIn numbers (c ∷ form) = shownBy numbers c ++ filledIn numbers form
 
 abbrev pub textOf : Line → List ℕ
 textOf l = filledIn (l .numbers) (take (l .size) (l .form))

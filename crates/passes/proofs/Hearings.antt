@@ -1,18 +1,17 @@
 -- What is heard of a frame, and of one frame after the other.
 -- Assumes nothing.
-use mathlib.Core.Path.{_≡_, _∙_, sym, refl, ap}
+use mathlib.Core.Path.{_≡_, _∙_, refl, ap}
 use mathlib.Core.List.{List, [], _∷_, _++_}
 use Prim.Native.Nat.{ℕ, suc, _<_, _≤_}
 use native.Mathlib.Omega.{arith}
-use lib.ListN.{length, getD, take, drop, drop-of-length-le}
+use lib.ListN.{length, getD, take, drop-of-length-le}
 use lib.Seq.{drop-cons, take-suc, take-all}
 use Rattle.frame.specs.Answers.{readingOf}
 use Rattle.frame.specs.declared.Reading.{Reading}
-use Rattle.values.specs.Values.{nothingHeard, valuesOf}
+use Rattle.values.specs.Values.{valuesOf}
 use Rattle.values.specs.declared.State.{State}
 use Rattle.values.specs.declared.Values.{Values}
 use Rattle.passes.specs.Pass.{hearingOf, noHearing, stateThrough, firstHeard, frameHeard}
-use Rattle.passes.specs.declared.Hearing.{Hearing}
 
 -- what is read in a frame and its values are what is heard of it
 pub heard-frame : (before : State) (f : List ℕ) {r : Reading} {v : Values} → r ≡ readingOf f

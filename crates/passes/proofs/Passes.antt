@@ -31,16 +31,16 @@ use Rattle.blocks.specs.declared.Found.the-variants.{At, Nothing}
 use Rattle.blocks.proofs.Blocks.{nothing-left}
 use Rattle.blocks.proofs.Voices.{broken-no-voice}
 use Rattle.blocks.proofs.Walks.{sound-short}
-use Rattle.blocks.proofs.Frames.{no-voice, Within, found-within, frames-none, frames-more, frames-refused, frames-sound}
-use Rattle.passes.specs.Counted.{countingOf, counting, frameAt, countsTo}
-use Rattle.passes.specs.Pass.{hearingOf, noHearing, stateThrough, frameHeard, begunAt, startOf, begunHere}
-use Rattle.passes.specs.Pass.{aheadOf, pastFrame, stepBy, nextOf, passAt}
+use Rattle.blocks.proofs.Frames.{no-voice, found-within, frames-none, frames-more, frames-refused, frames-sound}
+use Rattle.passes.specs.Counted.{countingOf, counting, countsTo}
+use Rattle.passes.specs.Pass.{hearingOf, noHearing, stateThrough, begunAt, startOf}
+use Rattle.passes.specs.Pass.{aheadOf, pastFrame, stepBy, nextOf}
 use Rattle.passes.specs.declared.Counts.{Counts}
 use Rattle.passes.specs.declared.Hearing.{Hearing}
 use Rattle.passes.specs.declared.Pass.{Pass}
 use Rattle.passes.specs.declared.Step.{Step}
 use Rattle.passes.proofs.Counting.{counts-none, counts-more, repaired-few, breaks-few}
-use Rattle.passes.proofs.Hearings.{through-none, through-next, heard-there, heard-beyond}
+use Rattle.passes.proofs.Hearings.{through-none, through-next}
 
 -- ---- the returns
 

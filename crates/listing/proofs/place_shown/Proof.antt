@@ -1,5 +1,4 @@
 use borrow.Author.Needs.{needs}
-use native.Mathlib.Omega.{arith}
 use Rattle.listing.proofs.Lines.{shown}
 use mathlib.Core.Path.{refl}
 use Rattle.listing.proofs.place_shown.Statement.{statement}

@@ -4,8 +4,8 @@ use Prim.Native.Nat.{_-_}
 use native.Mathlib.Omega.{arith}
 use borrow.Author.Needs.{needs}
 use lib.ListN.{length, getD}
-use Rattle.listing.specs.Lines.{standing}
-use Rattle.listing.proofs.Puts.{Put, put-length, standing-number, standing-byte}
+use Rattle.listing.specs.Lines.{shownBy}
+use Rattle.listing.proofs.Puts.{Put, put-length, shown-number, shown-byte}
 use Rattle.listing.proofs.Puts.{Laying, laying-start, laying-on, laying-done}
 use Rattle.listing.proofs.put_line.Statement.{statement}
 use Rattle.listing.proofs.put_line.Tie as tie
@@ -26,10 +26,10 @@ loop-again c =
     let long : length (x .form) ≡ 28 = search needs in
     laying-on (l .loop .inv) (c .before .before .loop-test .taken) (omega arith)
     (⊎-elim
-    {C = Put (l .loop .out) (l .loop .end) (standing (x .numbers) (getD (x .form) (l .loop .i) 0)) (c .if1 .end)
+    {C = Put (l .loop .out) (l .loop .end) (shownBy (x .numbers) (getD (x .form) (l .loop .i) 0)) (c .if1 .end)
     (c .if1 .out)}
-    (λ w. standing-number (x .numbers) _ _ _ (w .6) (w .7) (w .0 .taken) (w .3 .ensures))
-    (λ w. standing-byte (x .numbers) _ _ _ (w .5) (w .6) (w .0 .left) (w .2 .ensures)) (c .if1 .came))
+    (λ w. shown-number (x .numbers) _ _ _ (w .6) (w .7) (w .0 .taken) (w .3 .ensures))
+    (λ w. shown-byte (x .numbers) _ _ _ (w .5) (w .6) (w .0 .left) (w .2 .ensures)) (c .if1 .came))
 
 returns : tie.Need-returns Inv-loop μ-loop
 returns c = laying-done (c .before .loop .inv) (c .loop-test .left)

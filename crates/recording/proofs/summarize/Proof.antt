@@ -1,4 +1,3 @@
-use borrow.Author.Needs.{needs}
 use Rattle.passes.proofs.Passes.{start-walk}
 use Rattle.recording.proofs.Judging.{all-summed}
 use Rattle.recording.proofs.summarize.Statement.{statement}
