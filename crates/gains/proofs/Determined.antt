@@ -10,10 +10,6 @@ use Rattle.gains.proofs.pg.Kinds as pg
 use Rattle.gains.proofs.pg.Reads as pg-reads
 use Rattle.gains.proofs.gain_at.Kinds as gain-at
 use Rattle.gains.proofs.gain_at.Reads as gain-at-reads
-use Rattle.gains.proofs.nearest_cg.Kinds as nearest-cg
-use Rattle.gains.proofs.nearest_cg.Reads as nearest-cg-reads
-use Rattle.gains.proofs.nearest_pg.Kinds as nearest-pg
-use Rattle.gains.proofs.nearest_pg.Reads as nearest-pg-reads
 
 pub cg-determined : (κs : Lfts 0) (a : Dens κs cg.ps) (r₁ r₂ : resT cg.r κs .Denot)
     (x₁ x₂ : AtExit (endedOf 0 cg.ps cg.r) κs) → cg-reads.Post κs a r₁ x₁ → cg-reads.Post κs a r₂ x₂ → r₁ ≡ r₂
@@ -27,13 +23,3 @@ pub gain-at-determined : (κs : Lfts 1) (a : Dens κs gain-at.ps) (r₁ r₂ : r
     (x₁ x₂ : AtExit (endedOf 1 gain-at.ps gain-at.r) κs) → gain-at-reads.Post κs a r₁ x₁ → gain-at-reads.Post κs a r₂ x₂
     → r₁ ≡ r₂
 gain-at-determined κs a r₁ r₂ x₁ x₂ p q = p ∙ sym q
-
-pub nearest-cg-determined : (κs : Lfts 0) (a : Dens κs nearest-cg.ps) (r₁ r₂ : resT nearest-cg.r κs .Denot)
-    (x₁ x₂ : AtExit (endedOf 0 nearest-cg.ps nearest-cg.r) κs) → nearest-cg-reads.Post κs a r₁ x₁
-    → nearest-cg-reads.Post κs a r₂ x₂ → r₁ ≡ r₂
-nearest-cg-determined κs a r₁ r₂ x₁ x₂ p q = p ∙ sym q
-
-pub nearest-pg-determined : (κs : Lfts 0) (a : Dens κs nearest-pg.ps) (r₁ r₂ : resT nearest-pg.r κs .Denot)
-    (x₁ x₂ : AtExit (endedOf 0 nearest-pg.ps nearest-pg.r) κs) → nearest-pg-reads.Post κs a r₁ x₁
-    → nearest-pg-reads.Post κs a r₂ x₂ → r₁ ≡ r₂
-nearest-pg-determined κs a r₁ r₂ x₁ x₂ p q = p ∙ sym q

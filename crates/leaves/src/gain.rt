@@ -8,8 +8,8 @@ pub fn number(kind: u8, case: &[u8]) -> u64 {
     match kind {
         b'c' => value(gains::cg(case::short(case, 0))),
         b'p' => value(gains::pg(case::short(case, 0))),
-        b'n' => gains::nearest_cg(case::signed(case)) as u64,
-        _ => gains::nearest_pg(case::signed(case)) as u64,
+        b'n' => nearest::nearest_cg(case::signed(case)) as u64,
+        _ => nearest::nearest_pg(case::signed(case)) as u64,
     }
 }
 

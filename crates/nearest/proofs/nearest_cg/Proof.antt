@@ -1,12 +1,12 @@
--- `gains::nearest_cg` meets its contract: the constant `CG` is the list `cgTable`.
+-- `nearest::nearest_cg` meets its contract: the constant `CG` is the list `cgTable`.
 -- Assumes nothing.
 use mathlib.Core.Path.{_∙_, ap}
 use borrow.Author.Needs.{needs}
 use mir.Facts.{toZ-ofZ}
 use Rattle.gains.specs.Tables.{cgTable}
 use Rattle.gains.specs.Nearest.{nearestOf}
-use Rattle.gains.proofs.nearest_cg.Statement.{statement}
-use Rattle.gains.proofs.nearest_cg.Tie as tie
+use Rattle.nearest.proofs.nearest_cg.Statement.{statement}
+use Rattle.nearest.proofs.nearest_cg.Tie as tie
 
 returns : tie.Need-returns
 unfolding cgTable

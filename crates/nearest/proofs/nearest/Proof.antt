@@ -1,4 +1,4 @@
--- `gains::nearest` meets its contract. The loop's invariant: of the entries passed, from `i` on, the one at `best` is
+-- `nearest::nearest` meets its contract. The loop's invariant: of the entries passed, from `i` on, the one at `best` is
 -- the nearest and `near` away, and the lowest such. Each turn is one of `Down`.
 -- Assumes nothing.
 use native.Mathlib.Omega.{arith}
@@ -6,10 +6,10 @@ use borrow.Author.Needs.{sfits-of}
 use lib.ListN.{length}
 use mir.Syntax.{w32}
 use mir.Val.{toZ}
 use Rattle.gains.specs.Nearest.{apartAt}
 use Rattle.gains.proofs.Down.{Passed, only-last, as-near, farther, read-apart, come-down}
-use Rattle.gains.proofs.nearest.Statement.{statement}
-use Rattle.gains.proofs.nearest.Tie as tie
+use Rattle.nearest.proofs.nearest.Statement.{statement}
+use Rattle.nearest.proofs.nearest.Tie as tie
 
 abbrev Inv-loop : tie.InvT-loop
 Inv-loop table x i₀ last best₀ near₀ i best near = Passed (apartAt table (toZ w32 x)) (length table) i best near

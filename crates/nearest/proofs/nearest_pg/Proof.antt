@@ -1,12 +1,12 @@
--- `gains::nearest_pg` meets its contract: the constant `PG` is the list `pgTable`.
+-- `nearest::nearest_pg` meets its contract: the constant `PG` is the list `pgTable`.
 -- Assumes nothing.
 use mathlib.Core.Path.{_∙_, ap}
 use borrow.Author.Needs.{needs}
 use mir.Facts.{toZ-ofZ}
 use Rattle.gains.specs.Tables.{pgTable}
 use Rattle.gains.specs.Nearest.{nearestOf}
-use Rattle.gains.proofs.nearest_pg.Statement.{statement}
-use Rattle.gains.proofs.nearest_pg.Tie as tie
+use Rattle.nearest.proofs.nearest_pg.Statement.{statement}
+use Rattle.nearest.proofs.nearest_pg.Tie as tie
 
 returns : tie.Need-returns
 unfolding pgTable

@@ -1,14 +1,14 @@
--- `gains::distance` meets its contract. Every step is one of `Apart`; the first is the one that asks for more than 32
+-- `nearest::distance` meets its contract. Every step is one of `Apart`; the first is the one that asks for more than 32
 -- bits.
 -- Assumes nothing.
 use mir.Syntax.{w32, w64}
 use mir.Val.{SFits}
 use mir.Facts.{toZ-ofZ, sfits-widen}
 use Rattle.laws.proofs.Held.{cast-fits}
 use Rattle.gains.proofs.Apart.{difference-fits, turned-fits, turned-goes, turned-apart, difference-goes}
 use Rattle.gains.proofs.Apart.{difference-apart}
-use Rattle.gains.proofs.distance.Statement.{statement}
-use Rattle.gains.proofs.distance.Tie as tie
+use Rattle.nearest.proofs.distance.Statement.{statement}
+use Rattle.nearest.proofs.distance.Tie as tie
 
 sub-difference : tie.Need-sub-difference
 sub-difference c =
