@@ -37,7 +37,7 @@ RATTLE = [
     ("crates/gains/src/lib.rt", "CG", "cg"),
     ("crates/gains/src/lib.rt", "PG", "pg"),
     ("crates/delays/src/tables.rt", "TWELFTHS", "codes.twelfths"),
-    ("crates/delays/src/tables.rt", "BYTES", "codes.bytes"),
+    ("crates/coder/src/lib.rt", "BYTES", "codes.bytes"),
     ("crates/delays/src/tables.rt", "RANKS", "codes.ranks"),
     ("crates/lsp/src/lib.rt", "HZ", "lsp.by-index"),
     ("crates/codebook/src/lib.rt", "BOOK", "elements"),

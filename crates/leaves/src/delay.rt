@@ -26,7 +26,7 @@ pub fn coded(case: &[u8]) -> u64 {
         case::word(case, 4),
         case::word(case, 6),
     ];
-    match delays::codes(twelfths) {
+    match coder::codes(twelfths) {
         Coded::Codes(a, b, c, d) => number::packed(a, b, c, d),
         Coded::NotListed(subframe) => number::refused(4, subframe),
         Coded::OutsideWindow(subframe) => number::refused(5, subframe),

@@ -1,4 +1,4 @@
--- `delays::codes` meets its contract: the first pair's answer decides, or past it the second's.
+-- `coder::codes` meets its contract: the first pair's answer decides, or past it the second's.
 -- Assumes nothing.
 use mathlib.Core.Path.{_≡_, _∙_, sym}
 use mathlib.Core.List.{List}
@@ -6,11 +6,11 @@ use Prim.Native.Nat.{ℕ}
 use native.Mathlib.Omega.{arith}
 use borrow.Author.Needs.{needs}
 use lib.ListN.{getD}
 use Rattle.delays.specs.Steps.{codedPair}
 use Rattle.delays.specs.declared.Pair.the-variants.{Inside}
 use Rattle.delays.proofs.Pairs.{by-first, by-second}
-use Rattle.delays.proofs.codes.Statement.{statement}
-use Rattle.delays.proofs.codes.Tie as tie
+use Rattle.coder.proofs.codes.Statement.{statement}
+use Rattle.coder.proofs.codes.Tie as tie
 
 returns : tie.Need-returns
 returns c = by-first _ (sym (c .before .before .coded-pair .ensures) ∙ c .enum-told .given .1)

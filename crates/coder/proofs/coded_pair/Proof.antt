@@ -1,9 +1,9 @@
--- `delays::coded_pair` meets its contract: each test decides one of its cases.
+-- `coder::coded_pair` meets its contract: each test decides one of its cases.
 -- Assumes nothing.
 use native.Mathlib.Omega.{arith}
 use Rattle.delays.proofs.Pairs.{first-unlisted, second-unlisted, below-window, above-window, inside-window}
-use Rattle.delays.proofs.coded_pair.Statement.{statement}
-use Rattle.delays.proofs.coded_pair.Tie as tie
+use Rattle.coder.proofs.coded_pair.Statement.{statement}
+use Rattle.coder.proofs.coded_pair.Tie as tie
 
 returns : tie.Need-returns
 returns c = first-unlisted _ _ (c .before .rank-with .ensures) (c .if1 .taken)

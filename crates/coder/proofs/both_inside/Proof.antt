@@ -1,10 +1,10 @@
--- `delays::both_inside` meets its contract: the entries of the list of printed bytes.
+-- `coder::both_inside` meets its contract: the entries of the list of printed bytes.
 -- Assumes nothing.
 use native.Mathlib.Omega.{arith}
 use mir.Facts.{fits-lt, fits-lit}
 use Rattle.delays.proofs.Pairs.{byte-read-below, four-codes}
-use Rattle.delays.proofs.both_inside.Statement.{statement}
-use Rattle.delays.proofs.both_inside.Tie as tie
+use Rattle.coder.proofs.both_inside.Statement.{statement}
+use Rattle.coder.proofs.both_inside.Tie as tie
 
 array-read-a : tie.Need-array-read-a
 array-read-a c = c .before .fits .first .fits
