@@ -3,7 +3,6 @@ ghost use mathlib.Core.Path.{_≡_};
 ghost use Prim.Native.Nat.{_+_, _≤_, _<_};
 ghost use lib.ListN.{length, getD};
 ghost use Rattle.laws.specs.Bytes.{pairAt, wordAt};
-ghost use Rattle.blocks.specs.Refusals.{refusalOf, toldOf};
 ghost use Rattle.blocks.specs.Blocks.{rightSize, headingAt, blockAt};
 
 // Why a recording is refused, and the place that is told.
@@ -78,40 +77,6 @@ pub struct Span {
 pub enum Found {
     At(usize, usize),
     Nothing,
-}
-
-// The number of a refusal.
-pub fn refusal_number(cause: Cause) -> u32
-    ensures { λ r. ⌜ r ≡ refusalOf cause ⌝ }
-{
-    match cause {
-        Cause::TooLong => 1,
-        Cause::HeaderCut(_) => 7,
-        Cause::PastEnd(_) => 7,
-        Cause::WrongSize(_) => 7,
-        Cause::UnknownKind(_) => 8,
-        Cause::OutOfTurn(_) => 8,
-        Cause::EndMissing(_) => 8,
-        Cause::WrongCount(_) => 8,
-        Cause::Extra(_) => 8,
-    }
-}
-
-// What a refusal tells beside its number.
-pub fn tells(cause: Cause) -> Told
-    ensures { λ r. ⌜ r ≡ toldOf cause ⌝ }
-{
-    match cause {
-        Cause::TooLong => Told::Nothing,
-        Cause::HeaderCut(p) => Told::Place(p),
-        Cause::PastEnd(p) => Told::Place(p),
-        Cause::WrongSize(p) => Told::Place(p),
-        Cause::UnknownKind(p) => Told::Place(p),
-        Cause::OutOfTurn(p) => Told::Place(p),
-        Cause::EndMissing(p) => Told::Place(p),
-        Cause::WrongCount(p) => Told::Place(p),
-        Cause::Extra(p) => Told::Place(p),
-    }
 }
 
 // One byte as a wider number.

@@ -39,7 +39,7 @@ fn heard_values(r: Record, before: State) -> Values
     let present = hertz.hz;
     let used = present;
     let previous = previous_of(before, used);
-    let averages = lsp::averages(previous, used);
+    let averages = averages::averages(previous, used);
     let mark = lsp::order_mark(present);
     let state = state_after(used);
     Values {

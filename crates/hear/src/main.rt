@@ -56,7 +56,7 @@ fn refused(cause: Cause) -> bool {
         &mut out,
         0,
         b"refused",
-        blocks::refusal_number(cause) as u64,
+        refusals::refusal_number(cause) as u64,
     );
     let place = line::told(&mut out, number, b" at", place(cause));
     line::written(&mut out, place)
@@ -64,7 +64,7 @@ fn refused(cause: Cause) -> bool {
 
 // The place that is told, 65536 where none is.
 fn place(cause: Cause) -> u64 {
-    match blocks::tells(cause) {
+    match refusals::tells(cause) {
         Told::Nothing => 65536,
         Told::Place(p) => p as u64,
     }

@@ -13,7 +13,7 @@ pub fn number(case: &[u8]) -> u64 {
         Verdict::TooLarge(field) => number::refused(2, (field % 65536) as u16),
         Verdict::Within => lsp::order_mark(hz) as u64,
     };
-    as_one(lsp::averages(previous, hz), first)
+    as_one(averages::averages(previous, hz), first)
 }
 
 // Forty numbers as one.

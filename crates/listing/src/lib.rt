@@ -84,8 +84,8 @@ fn head_line(walk: Walk) -> Line
 fn refused_line(cause: Cause) -> Line
     ensures { λ r. ⌜ IsLine r (refusedLine cause) ⌝ }
 {
-    let number = blocks::refusal_number(cause) as u64;
-    let place = place_shown(blocks::tells(cause));
+    let number = refusals::refusal_number(cause) as u64;
+    let place = place_shown(refusals::tells(cause));
     Line {
         form: *b"refused \x00 at \x01\n             ",
         size: 15,

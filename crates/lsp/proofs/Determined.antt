@@ -8,8 +8,6 @@ use Rattle.lsp.proofs.in_hertz.Kinds as in-hertz
 use Rattle.lsp.proofs.in_hertz.Reads as in-hertz-reads
 use Rattle.lsp.proofs.order_mark.Kinds as order-mark
 use Rattle.lsp.proofs.order_mark.Reads as order-mark-reads
-use Rattle.lsp.proofs.averages.Kinds as averages
-use Rattle.lsp.proofs.averages.Reads as averages-reads
 
 pub in-hertz-determined : (κs : Lfts 0) (a : Dens κs in-hertz.ps) (r₁ r₂ : resT in-hertz.r κs .Denot)
     (x₁ x₂ : AtExit (endedOf 0 in-hertz.ps in-hertz.r) κs) → in-hertz-reads.Post κs a r₁ x₁
@@ -20,8 +18,3 @@ pub order-mark-determined : (κs : Lfts 0) (a : Dens κs order-mark.ps) (r₁ r�
     (x₁ x₂ : AtExit (endedOf 0 order-mark.ps order-mark.r) κs)
     → order-mark-reads.Post κs a r₁ x₁ → order-mark-reads.Post κs a r₂ x₂ → r₁ ≡ r₂
 order-mark-determined κs a r₁ r₂ x₁ x₂ p q = p ∙ sym q
-
-pub averages-determined : (κs : Lfts 0) (a : Dens κs averages.ps) (r₁ r₂ : resT averages.r κs .Denot)
-    (x₁ x₂ : AtExit (endedOf 0 averages.ps averages.r) κs)
-    → averages-reads.Post κs a r₁ x₁ → averages-reads.Post κs a r₂ x₂ → r₁ ≡ r₂
-averages-determined κs a r₁ r₂ x₁ x₂ p q = p ∙ sym q

@@ -1,12 +1,10 @@
-// The ten line spectral parameters of 3.7: an index in Hz, the order mark of ten, and the averages of two frames.
-// LSP j stands at place j - 1 of a list of ten; all values are 16 bits, the averages are whole eighths of a Hz.
+// The ten line spectral parameters of 3.7: an index in Hz, and the order mark of ten.
+// LSP j stands at place j - 1 of a list of ten; all values are 16 bits.
 ghost use mathlib.Core.Path.{_≡_};
-ghost use Prim.Native.Nat.{_≤_};
 ghost use lib.Dec.{T};
 ghost use Rattle.laws.specs.Tabulate.{tabulate};
 ghost use Rattle.lsp.specs.Table.{asPrinted, tooLarge, hzAt, hertzOf};
 ghost use Rattle.lsp.specs.Order.{markOf};
-ghost use Rattle.lsp.specs.Average.{averageOf, averagesOf};
 
 // The table of 3.7.2 in Hz as printed: a row for each index from 0, LSP 1 to 10 across, 0 where no entry is printed.
 #[rattlefmt::skip]
@@ -105,30 +103,4 @@ pub fn order_mark(hz: [u16; 10]) -> usize
         i += 1;
     }
     0
-}
-
-// The averages of the four subframes in eighths of a Hz, subframe 1 first.
-pub fn averages(previous: [u16; 10], present: [u16; 10]) -> [u32; 40]
-    ensures { λ r. ⌜ r ≡ averagesOf previous present ⌝ }
-{
-    let mut eighths = [0u32; 40];
-    let mut i = 0;
-    while i < 10 {
-        let a = previous[i];
-        let b = present[i];
-        eighths[i] = average(1, a, b);
-        eighths[10 + i] = average(2, a, b);
-        eighths[20 + i] = average(3, a, b);
-        eighths[30 + i] = average(4, a, b);
-        i += 1;
-    }
-    eighths
-}
-
-// The average of two values in subframe n, in eighths.
-fn average(n: u32, previous: u16, present: u16) -> u32
-    requires { ⌜ (1 ≤ n) × (n ≤ 4) ⌝ }
-    ensures { λ r. ⌜ r ≡ averageOf n previous present ⌝ }
-{
-    (9 - 2 * n) * previous as u32 + (2 * n - 1) * present as u32
 }

@@ -1,13 +1,13 @@
--- `lsp::averages` meets its contract. The loop's invariant: the parameters passed are done in all four subframes.
+-- `averages::averages` meets its contract. The loop's invariant: the parameters passed are done in all four subframes.
 -- Assumes nothing.
 use mathlib.Core.Path.{refl}
 use Prim.Native.Nat.{_-_, _<_}
 use native.Mathlib.Omega.{arith}
 use Rattle.lsp.proofs.Weights.{Averaged, none-averaged, one-averaged, all-averaged}
 use Rattle.lsp.proofs.Weights.{one-of-four, first-below, first-scaled, next-fits, one-less}
 use Rattle.lsp.proofs.Weights.{place-below, place-fits, place-scaled}
-use Rattle.lsp.proofs.averages.Statement.{statement}
-use Rattle.lsp.proofs.averages.Tie as tie
+use Rattle.averages.proofs.averages.Statement.{statement}
+use Rattle.averages.proofs.averages.Tie as tie
 
 abbrev Inv-loop : tie.InvT-loop
 Inv-loop previous present eighths₀ i₀ eighths i = Averaged previous present i eighths

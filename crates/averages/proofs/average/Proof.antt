@@ -1,12 +1,12 @@
--- `lsp::average` meets its contract: each part is at most 7 times a value of sixteen bits.
+-- `averages::average` meets its contract: each part is at most 7 times a value of sixteen bits.
 -- Assumes nothing.
 use mathlib.Core.Path.{refl}
 use Prim.Native.Nat.{ℕ, _-_, _*_, _≤_}
 use native.Mathlib.Omega.{arith}
 use mir.Facts.{fits-lt, fits-lit}
 use Rattle.lsp.proofs.Weights.{part-small}
-use Rattle.lsp.proofs.average.Statement.{statement}
-use Rattle.lsp.proofs.average.Tie as tie
+use Rattle.averages.proofs.average.Statement.{statement}
+use Rattle.averages.proofs.average.Tie as tie
 
 -- the previous frame's part
 early : (c : tie.Start) → (9 - 2 * c .args .n) * c .args .previous ≤ 458745

@@ -1,8 +1,8 @@
 use mathlib.Core.Path.{sym, ap}
 use borrow.Author.Needs.{needs}
 use Rattle.blocks.specs.Refusals.{refusalOf}
-use Rattle.blocks.proofs.refusal_number.Statement.{statement}
-use Rattle.blocks.proofs.refusal_number.Tie as tie
+use Rattle.refusals.proofs.refusal_number.Statement.{statement}
+use Rattle.refusals.proofs.refusal_number.Tie as tie
 
 returns : tie.Need-returns
 returns c = ap refusalOf (sym (c .enum-told .given .1))

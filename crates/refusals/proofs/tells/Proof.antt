@@ -1,8 +1,8 @@
 use mathlib.Core.Path.{sym, ap}
 use borrow.Author.Needs.{needs}
 use Rattle.blocks.specs.Refusals.{toldOf}
-use Rattle.blocks.proofs.tells.Statement.{statement}
-use Rattle.blocks.proofs.tells.Tie as tie
+use Rattle.refusals.proofs.tells.Statement.{statement}
+use Rattle.refusals.proofs.tells.Tie as tie
 
 returns : tie.Need-returns
 returns c = ap toldOf (sym (c .enum-told .given .1))
