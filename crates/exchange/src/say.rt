@@ -10,7 +10,7 @@ pub fn number(n: usize) {
 // A result of the C boundary.
 pub fn result(x: i32) {
     let mut room = [b' '; 12];
-    text::put_signed(&mut room, 0, x);
+    decimals::put_signed(&mut room, 0, x);
     io::write_all(STDOUT_FILENO, &room);
 }
 

@@ -15,13 +15,13 @@ pub fn told(out: &mut [u8; 1024], at: usize, word: &[u8], n: u64) -> usize {
 // A number.
 pub fn number(out: &mut [u8; 1024], at: usize, n: u64) -> usize {
     let next = text::put_byte(out, at, b' ');
-    text::put_number(out, next, n)
+    decimals::put_number(out, next, n)
 }
 
 // A signed number.
 pub fn signed(out: &mut [u8; 1024], at: usize, x: i32) -> usize {
     let next = text::put_byte(out, at, b' ');
-    text::put_signed(out, next, x)
+    decimals::put_signed(out, next, x)
 }
 
 // Writes the line as far as it was laid, with a newline. Answers whether it was written.

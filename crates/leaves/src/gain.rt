@@ -24,6 +24,6 @@ fn value(gain: Gain) -> u64 {
 // A signed number: the first eight bytes of its text, dots after it, as one.
 pub fn signed(x: i32) -> u64 {
     let mut room = [b'.'; 8];
-    text::put_signed(&mut room, 0, x);
+    decimals::put_signed(&mut room, 0, x);
     case::word(&room, 0) as u64 + 4294967296 * case::word(&room, 2) as u64
 }

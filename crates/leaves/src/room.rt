@@ -24,6 +24,6 @@ fn laid(kind: u8, case: &[u8], out: &mut [u8]) -> usize {
     match kind {
         b'b' => text::put_byte(out, at, (n % 256) as u8),
         b'w' => text::put_word(out, at, case),
-        _ => text::put_number(out, at, n as u64),
+        _ => decimals::put_number(out, at, n as u64),
     }
 }

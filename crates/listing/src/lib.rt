@@ -184,7 +184,7 @@ fn put_line(out: &mut [u8], at: usize, line: Line) -> usize
     while i < line.size {
         let c = line.form[i];
         if c < 8 {
-            end = text::put_number(out, end, line.numbers[c as usize]);
+            end = decimals::put_number(out, end, line.numbers[c as usize]);
         } else {
             end = text::put_byte(out, end, c);
         }

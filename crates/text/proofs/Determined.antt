@@ -5,14 +5,12 @@ use denote.Triple.Clauses.{AtExit}
 use denote.Ref.{now}
 use borrow.Fn.Kinds.{Dens, resT, endedOf}
 use mathlib.Core.Path.{_≡_, _∙_, sym}
+use Rattle.text.proofs.least.Kinds as least
+use Rattle.text.proofs.least.Reads as least-reads
 use Rattle.text.proofs.put_byte.Kinds as put-byte
 use Rattle.text.proofs.put_byte.Reads as put-byte-reads
 use Rattle.text.proofs.put_word.Kinds as put-word
 use Rattle.text.proofs.put_word.Reads as put-word-reads
-use Rattle.text.proofs.put_number.Kinds as put-number
-use Rattle.text.proofs.put_number.Reads as put-number-reads
-use Rattle.text.proofs.put_signed.Kinds as put-signed
-use Rattle.text.proofs.put_signed.Reads as put-signed-reads
 
 pub put-byte-determined : (κs : Lfts 1) (a : Dens κs put-byte.ps) (r₁ r₂ : resT put-byte.r κs .Denot)
     (x₁ x₂ : AtExit (endedOf 1 put-byte.ps put-byte.r) κs)
@@ -24,12 +22,7 @@ pub put-word-determined : (κs : Lfts 2) (a : Dens κs put-word.ps) (r₁ r₂ :
     → put-word-reads.Post κs a r₁ x₁ → put-word-reads.Post κs a r₂ x₂ → (r₁ ≡ r₂) × (now (x₁ .0) ≡ now (x₂ .0))
 put-word-determined κs a r₁ r₂ x₁ x₂ p q = (p .0 ∙ sym (q .0), p .1 ∙ sym (q .1))
 
-pub put-number-determined : (κs : Lfts 1) (a : Dens κs put-number.ps) (r₁ r₂ : resT put-number.r κs .Denot)
-    (x₁ x₂ : AtExit (endedOf 1 put-number.ps put-number.r) κs)
-    → put-number-reads.Post κs a r₁ x₁ → put-number-reads.Post κs a r₂ x₂ → (r₁ ≡ r₂) × (now (x₁ .0) ≡ now (x₂ .0))
-put-number-determined κs a r₁ r₂ x₁ x₂ p q = (p .0 ∙ sym (q .0), p .1 ∙ sym (q .1))
-
-pub put-signed-determined : (κs : Lfts 1) (a : Dens κs put-signed.ps) (r₁ r₂ : resT put-signed.r κs .Denot)
-    (x₁ x₂ : AtExit (endedOf 1 put-signed.ps put-signed.r) κs)
-    → put-signed-reads.Post κs a r₁ x₁ → put-signed-reads.Post κs a r₂ x₂ → (r₁ ≡ r₂) × (now (x₁ .0) ≡ now (x₂ .0))
-put-signed-determined κs a r₁ r₂ x₁ x₂ p q = (p .0 ∙ sym (q .0), p .1 ∙ sym (q .1))
+pub least-determined : (κs : Lfts 0) (a : Dens κs least.ps) (r₁ r₂ : resT least.r κs .Denot)
+    (x₁ x₂ : AtExit (endedOf 0 least.ps least.r) κs) → least-reads.Post κs a r₁ x₁ → least-reads.Post κs a r₂ x₂
+    → r₁ ≡ r₂
+least-determined κs a r₁ r₂ x₁ x₂ p q = p ∙ sym q

@@ -1,4 +1,4 @@
--- `text::put_number` meets its contract. The first loop passes over the digits that have no room, the second lays the
+-- `decimals::put_number` meets its contract. The first loop passes over the digits that have no room, the second lays the
 -- others from the last:
 -- of the digits from the one at i on, those that have room are laid, and the rest says those before it. The measure is
 -- i.
@@ -6,10 +6,10 @@
 use Prim.Native.Nat.{_-_}
 use native.Mathlib.Omega.{arith}
 use borrow.Author.Needs.{needs}
 use Rattle.text.proofs.Turns.{past, Passed, passed-none, passed-more, Numbers, number-none, number-more}
 use Rattle.text.proofs.Turns.{number-all, number-length}
-use Rattle.text.proofs.put_number.Statement.{statement}
-use Rattle.text.proofs.put_number.Tie as tie
+use Rattle.decimals.proofs.put_number.Statement.{statement}
+use Rattle.decimals.proofs.put_number.Tie as tie
 
 abbrev Inv-loop : tie.InvT-loop
 Inv-loop out at n long i₀ kept rest₀ i rest = Passed out at n kept i rest

@@ -1,13 +1,13 @@
--- `text::put_signed` meets its contract: a minus and the size, or the size alone.
+-- `decimals::put_signed` meets its contract: a minus and the size, or the size alone.
 -- Assumes nothing.
 use mathlib.Core.Path.{_∙_, ap}
 use native.Mathlib.Omega.{arith}
 use borrow.Author.Needs.{needs}
 use mir.Facts.{toZ-ofZ}
 use Rattle.text.specs.Signed.{raisedOf}
 use Rattle.text.proofs.Signed.{put-below, put-from}
-use Rattle.text.proofs.put_signed.Statement.{statement}
-use Rattle.text.proofs.put_signed.Tie as tie
+use Rattle.decimals.proofs.put_signed.Statement.{statement}
+use Rattle.decimals.proofs.put_signed.Tie as tie
 
 returns : tie.Need-returns
 returns c =

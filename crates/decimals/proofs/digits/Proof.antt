@@ -1,10 +1,10 @@
--- `text::digits` meets its contract. The loop's invariant: the digits counted, less one, and those of the rest are all.
+-- `decimals::digits` meets its contract. The loop's invariant: the digits counted, less one, and those of the rest are all.
 -- The measure is the rest.
 -- Assumes nothing.
 use native.Mathlib.Omega.{arith}
 use Rattle.text.proofs.Turns.{Counted, counted-none, counted-more, counted-all, counted-few}
-use Rattle.text.proofs.digits.Statement.{statement}
-use Rattle.text.proofs.digits.Tie as tie
+use Rattle.decimals.proofs.digits.Statement.{statement}
+use Rattle.decimals.proofs.digits.Tie as tie
 
 abbrev Inv-loop : tie.InvT-loop
 Inv-loop n k₀ left₀ k left = Counted n k left

@@ -1,13 +1,13 @@
--- `text::raised` meets its contract: the sum is made at 64 bits, and is not below 0.
+-- `decimals::raised` meets its contract: the sum is made at 64 bits, and is not below 0.
 -- Assumes nothing.
 use mathlib.Core.Path.{ap}
 use native.Mathlib.Omega.{arith}
 use lib.IntN.{natAbs}
 use mir.Syntax.{w64}
 use Rattle.laws.proofs.Held.{cast-fits}
 use Rattle.text.proofs.Signed.{raised-below, sum-fits, sum-is}
-use Rattle.text.proofs.raised.Statement.{statement}
-use Rattle.text.proofs.raised.Tie as tie
+use Rattle.decimals.proofs.raised.Statement.{statement}
+use Rattle.decimals.proofs.raised.Tie as tie
 
 cast-wide : tie.Need-cast-wide
 cast-wide c = cast-fits w64 (c .fits .x) tt
