@@ -1,5 +1,5 @@
--- A pair of subframes, 1 and 2 or 3 and 4: what each test of `coded_pair` tells of the definitions, and how the answers
--- for two pairs make those for four subframes.
+-- A pair of subframes, 1 and 2 or 3 and 4: what each test of `coder::coded_pair` tells of the definitions, and how the
+-- answers for two pairs make those for four subframes.
 -- Assumes nothing.
 use mathlib.Core.Path.{_≡_, _∙_, sym, refl, ap}
 use mathlib.Core.Bool.{Bool, true, false}

@@ -5,17 +5,17 @@ use mathlib.Core.Bool.{Bool}
 use Prim.Native.Nat.{ℕ, zero, suc, _^_, _<_, _≤_}
 use native.Mathlib.Omega.{arith}
 use native.Mathlib.Numerals.{sub-one}
-use lib.Dec.{T, leb, leb→le, eqb, eqb→eq}
+use lib.Dec.{T, eqb, eqb→eq}
 use lib.ListN.{getD}
-use Rattle.laws.specs.Table.{both, every, allBelow}
+use Rattle.laws.specs.Table.{every, allBelow}
 use Rattle.laws.specs.Total.{bit, fromBits}
-use Rattle.laws.proofs.Table.{at, each-of-four, below}
+use Rattle.laws.proofs.Table.{at, below}
 use Rattle.laws.proofs.Bits.{fromBits-lt, bit-fromBits}
 use Rattle.laws.proofs.Collected.{Scattered, collected}
 use Rattle.frame.specs.Places.{Name, places, fieldOf, bitOf, fieldAt, bitIn, bitsIn, seek, placeOf}
 use Rattle.frame.specs.Places.Name.{HP}
 use Rattle.frame.specs.Frame.{indexIn}
-use Rattle.frame.proofs.Places.{length-places, field-below, bit-in-field}
+use Rattle.frame.proofs.Places.{placed, placed-told, length-places, field-below, bit-in-field}
 
 -- the test at one place: its bit has no earlier place
 here-first : ℕ → Name → Bool
@@ -28,7 +28,7 @@ all-first = tt
 
 -- the test at one bit of one field: it has a place
 found-at : ℕ → ℕ → ℕ → Bool
-found-at f i p = both (leb 1 p) (both (leb p 144) (both (eqb (fieldAt p) f) (eqb (bitIn p) i)))
+found-at f i p = placed p (fieldAt p) f (bitIn p) i
 
 -- the test at all bits of one field
 found : ℕ → Bool
@@ -45,10 +45,8 @@ module _ (f i : ℕ) (h : f < 29) (l : i < bitsIn f) where
   told : (1 ≤ placeOf f i) × (placeOf f i ≤ 144) × (fieldAt (placeOf f i) ≡ f) × (bitIn (placeOf f i) ≡ i)
   unfolding found found-at
   told =
-      let p = placeOf f i in
-      let t = each-of-four (leb 1 p) (leb p 144) (eqb (fieldAt p) f) (eqb (bitIn p) i)
-      (below (λ (i : ℕ). found-at f i (placeOf f i)) (bitsIn f) (below found 29 all-found f h) i l) in
-      (leb→le 1 p (t .0), leb→le p 144 (t .1), eqb→eq (fieldAt p) f (t .2), eqb→eq (bitIn p) i (t .3))
+      placed-told (placeOf f i) (fieldAt (placeOf f i)) f (bitIn (placeOf f i)) i
+      (below (λ (i : ℕ). found-at f i (placeOf f i)) (bitsIn f) (below found 29 all-found f h) i l)
 
   -- its place is 1 or more
   pub place-first : 1 ≤ placeOf f i

@@ -5,11 +5,12 @@ use mathlib.Core.Path.{_≡_, subst}
 use mathlib.Core.Bool.{Bool}
 use Prim.Native.Nat.{ℕ, zero, suc, _+_, _*_, _/_, _%_, _<_, _≤_}
 use native.Mathlib.Omega.{arith}
-use lib.Dec.{T, leb, leb→le, ltb, ltb→lt, eqb, eqb→eq}
+use lib.Dec.{T, ltb, ltb→lt, eqb, eqb→eq}
 use Rattle.laws.specs.Lowest.{lowestFrom}
 use Rattle.laws.specs.Table.{both, allBelow}
-use Rattle.laws.proofs.Table.{below, both-left, both-right, each-of-four}
+use Rattle.laws.proofs.Table.{below, both-left, both-right}
 use Rattle.frame.specs.Frame.{byteOf, shiftOf, placeAt}
+use Rattle.frame.proofs.Places.{placed, placed-told}
 
 -- the test at place p: it stands in one of the eighteen bytes, at one of the eight bits, and no place before it
 -- stands there
@@ -18,7 +19,7 @@ here p = both (ltb (byteOf p) 18) (both (ltb (shiftOf p) 8) (eqb (placeAt (byteO
 
 -- the test at bit i of byte k: a place p stands there
 there : ℕ → ℕ → ℕ → Bool
-there k i p = both (leb 1 p) (both (leb p 144) (both (eqb (byteOf p) k) (eqb (shiftOf p) i)))
+there k i p = placed p (byteOf p) k (shiftOf p) i
 
 -- both at once: the places 1 to 144, and the eight bits of the eighteen bytes
 inverse : ℕ → Bool
@@ -89,9 +90,7 @@ module _ (k i : ℕ) (h : k < 18) (l : i < 8) where
   stands : (1 ≤ placeAt k i) × (placeAt k i ≤ 144) × (byteOf (placeAt k i) ≡ k) × (shiftOf (placeAt k i) ≡ i)
   unfolding there
   stands =
-      let p = placeAt k i in
-      let t = each-of-four (leb 1 p) (leb p 144) (eqb (byteOf p) k) (eqb (shiftOf p) i) found in
-      (leb→le 1 p (t .0), leb→le p 144 (t .1), eqb→eq (byteOf p) k (t .2), eqb→eq (shiftOf p) i (t .3))
+      placed-told (placeAt k i) (byteOf (placeAt k i)) k (shiftOf (placeAt k i)) i found
 
   -- the place of a byte and a bit is 1 or more
   pub there-first : 1 ≤ placeAt k i

@@ -1,15 +1,26 @@
 -- Facts of the table of 3.8.2, each one computed test over all of its places.
 -- Assumes nothing.
 use mathlib.Core.Path.{_≡_, _∙_, sym, refl, ap, subst}
-use Prim.Native.Nat.{ℕ, _+_, _-_, _*_, _/_, _%_, _<_}
+use mathlib.Core.Bool.{Bool}
+use Prim.Native.Nat.{ℕ, _+_, _-_, _*_, _/_, _%_, _<_, _≤_}
 use native.Mathlib.Omega.{arith}
-use lib.Dec.{T, ltb, ltb→lt}
+use lib.Dec.{T, leb, leb→le, ltb, ltb→lt, eqb, eqb→eq}
 use lib.ListN.{length, getD, List·getD-map}
-use Rattle.laws.specs.Table.{every}
-use Rattle.laws.proofs.Table.{at}
+use Rattle.laws.specs.Table.{both, every}
+use Rattle.laws.proofs.Table.{at, each-of-four}
 use Rattle.frame.specs.Places.{Name, places, fieldOf, bitOf, fieldAt, bitIn, bitsIn}
 use Rattle.frame.specs.Places.Name.{HP}
 use Rattle.frame.specs.Steps.{entryOf, entries}
+
+-- the test whether p is one of the 144 places and two numbers of it are these
+abbrev pub placed : ℕ → ℕ → ℕ → ℕ → ℕ → Bool
+placed p x f y i = both (leb 1 p) (both (leb p 144) (both (eqb x f) (eqb y i)))
+
+-- and what it tells
+pub placed-told : (p x f y i : ℕ) → T (placed p x f y i) → (1 ≤ p) × (p ≤ 144) × (x ≡ f) × (y ≡ i)
+placed-told p x f y i h =
+    let t = each-of-four (leb 1 p) (leb p 144) (eqb x f) (eqb y i) h in
+    (leb→le 1 p (t .0), leb→le p 144 (t .1), eqb→eq x f (t .2), eqb→eq y i (t .3))
 
 -- there are 144 of them
 pub length-places : length places ≡ 144

@@ -1,5 +1,5 @@
--- The steps of `distance`: at any width of more than 32 bits the difference of an `i32` and an `i16` fits; at 64 so
--- does its negative, and whichever of the two is not negative is the distance.
+-- The steps of `nearest::distance`: at any width of more than 32 bits the difference of an `i32` and an `i16` fits; at
+-- 64 so does its negative, and whichever of the two is not negative is the distance.
 -- Assumes nothing.
 use mathlib.Core.Path.{_≡_, _∙_, sym, ap, subst}
 use mathlib.Core.Bool.{true, false}

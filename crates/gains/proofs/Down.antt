@@ -1,4 +1,4 @@
--- The loop of `nearest`, which goes down from the last entry, one turn at a time.
+-- The loop of `nearest::nearest`, which goes down from the last entry, one turn at a time.
 -- Assumes nothing.
 use mathlib.Core.Path.{_≡_, _∙_, ap}
 use mathlib.Core.List.{List}

@@ -18,7 +18,8 @@ use Rattle.passes.specs.declared.Hearing.{Hearing}
 use Rattle.text.specs.Ascii.{ascii}
 use Rattle.text.specs.Decimal.{decimal}
 use Rattle.listing.specs.Lines.{pairLine, headLine, fields, saidOf, frameText, lastLine, placeShown, refusedLine}
-use Rattle.listing.specs.Lines.{frameLine, filledIn}
+use Rattle.listing.specs.Lines.{frameLine}
+use Rattle.listing.specs.Steps.{filledIn}
 
 -- eight numbers of which a form shows the first two
 abbrev two : ℕ → ℕ → List ℕ

@@ -11,7 +11,7 @@ use lib.Seq.{take-suc}
 use Rattle.text.specs.Decimal.{decimal}
 use Rattle.text.specs.Laid.{laid, after}
 use Rattle.text.proofs.Laid.{length-laid, laid-none, put-then}
-use Rattle.listing.specs.Lines.{shownBy, filledIn}
+use Rattle.listing.specs.Steps.{shownBy, filledIn}
 
 -- a text is laid at a position: the position after it, and the buffer then
 abbrev pub Put : List ℕ → ℕ → List ℕ → ℕ → List ℕ → Type 0

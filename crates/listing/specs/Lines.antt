@@ -1,11 +1,9 @@
 -- The lines of a listing (document 01, "The listing program"). Fields are one space apart and each line ends in a
 -- newline.
 use mathlib.Core.Bool.{cond}
-use mathlib.Core.Path.{_≡_}
 use mathlib.Core.List.{List, [], _∷_, _++_}
-use Prim.Native.Nat.{ℕ, _≤_}
-use lib.Dec.{eqb, ltb}
-use lib.ListN.{getD, take}
+use Prim.Native.Nat.{ℕ}
+use lib.Dec.{eqb}
 use Rattle.frame.specs.Answers.{correctionNumber}
 use Rattle.values.specs.Outcome as values
 use Rattle.blocks.specs.Walk.{longest}
@@ -16,7 +14,6 @@ use Rattle.blocks.specs.declared.Told.the-variants.{Nothing, Place}
 use Rattle.blocks.specs.declared.Walk.{Walk}
 use Rattle.passes.specs.declared.Counts.{Counts}
 use Rattle.passes.specs.declared.Hearing.{Hearing}
-use Rattle.listing.specs.declared.Line.{Line}
 use Rattle.text.specs.Ascii.{ascii}
 use Rattle.text.specs.Decimal.{decimal}
 
@@ -64,18 +61,3 @@ placeShown (Place p) = p
 
 unfoldable pub refusedLine : Cause → List ℕ
 refusedLine cause = pairLine (ascii "refused ") (refusalOf cause) (ascii " at ") (placeShown (toldOf cause))
-
--- a step of the code: a line by its form. A byte below 8 stands for the number at that place, any other for itself.
-abbrev pub shownBy : List ℕ → ℕ → List ℕ
-shownBy numbers c = cond (ltb c 8) (decimal (getD numbers c 0)) (c ∷ [])
-
-unfoldable pub filledIn : List ℕ → List ℕ → List ℕ
-filledIn numbers [] = []
-filledIn numbers (c ∷ form) = shownBy numbers c ++ filledIn numbers form
-
-abbrev pub textOf : Line → List ℕ
-textOf l = filledIn (l .numbers) (take (l .size) (l .form))
-
--- a line whose form is that long lays this text
-abbrev pub IsLine : Line → List ℕ → Type 0
-IsLine l text = (l .size ≤ 28) × (textOf l ≡ text)

@@ -15,7 +15,8 @@ ghost use Rattle.text.specs.Laid.{laid, after};
 ghost use Rattle.blocks.specs.Walk.{walkedOf};
 ghost use Rattle.blocks.specs.Frames.{framesOf};
 ghost use Rattle.passes.specs.Pass.{startOf};
-ghost use Rattle.listing.specs.Lines.{headLine, frameText, frameLine, lastLine, placeShown, refusedLine, IsLine, textOf};
+ghost use Rattle.listing.specs.Lines.{headLine, frameText, frameLine, lastLine, placeShown, refusedLine};
+ghost use Rattle.listing.specs.Steps.{IsLine, textOf};
 ghost use Rattle.listing.specs.Listing.{bodyOf, soundText, listedOf, listingLeft};
 ghost use Rattle.blocks.specs.declared.Ending.the-variants.{Sound};
 

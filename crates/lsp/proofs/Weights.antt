@@ -1,4 +1,4 @@
--- The loop of `averages`, one turn at a time: the four averages of one parameter, and where they stand.
+-- The loop of `averages::averages`, one turn at a time: the four averages of one parameter, and where they stand.
 -- Assumes nothing.
 use mathlib.Core.Path.{_≡_, _∙_, sym, refl}
 use mathlib.Core.List.{List}

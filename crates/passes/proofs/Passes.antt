@@ -140,7 +140,8 @@ module _ (s : List ℕ) (p : Pass) where
 
 -- of `Pass::past`
 pub past-frame : (p : Pass) (h : Hearing) (end left : ℕ) {number : ℕ} {c : Counts}
-    → number ≡ correctionNumber (h .reading) → c ≡ countingOf (p .counts) (p .frames + 1) number (h .reading .indices .sy)
+    → number ≡ correctionNumber (h .reading)
+    → c ≡ countingOf (p .counts) (p .frames + 1) number (h .reading .indices .sy)
     → record { at = end; left = left; frames = p .frames + 1; counts = c; state = h .values .state }
     ≡ pastFrame p h end left
 past-frame p h end left is e =

@@ -1,4 +1,4 @@
--- The loops that go through the frames by a pass.
+-- The loops of `recording` and `listing` that go through the frames by a pass.
 -- Assumes nothing.
 use mathlib.Core.Path.{_≡_, _∙_, sym, refl, ap, subst}
 use mathlib.Core.List.{List}

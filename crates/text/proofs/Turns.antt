@@ -1,4 +1,4 @@
--- The loops of the functions: how each starts, a turn of it, and how it ends.
+-- The loops of the functions here and of `decimals`: how each starts, a turn of it, and how it ends.
 -- Assumes nothing.
 use mathlib.Core.Path.{_≡_, _∙_, sym, ap, subst}
 use mathlib.Core.List.{List, [], _∷_}

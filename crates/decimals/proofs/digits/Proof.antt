@@ -1,5 +1,5 @@
--- `decimals::digits` meets its contract. The loop's invariant: the digits counted, less one, and those of the rest are all.
--- The measure is the rest.
+-- `decimals::digits` meets its contract. The loop's invariant: the digits counted, less one, and those of the rest are
+-- all. The measure is the rest.
 -- Assumes nothing.
 use native.Mathlib.Omega.{arith}
 use Rattle.text.proofs.Turns.{Counted, counted-none, counted-more, counted-all, counted-few}

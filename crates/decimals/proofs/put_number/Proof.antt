@@ -1,5 +1,5 @@
--- `decimals::put_number` meets its contract. The first loop passes over the digits that have no room, the second lays the
--- others from the last:
+-- `decimals::put_number` meets its contract. The first loop passes over the digits that have no room, the second lays
+-- the others from the last:
 -- of the digits from the one at i on, those that have room are laid, and the rest says those before it. The measure is
 -- i.
 -- Assumes nothing.

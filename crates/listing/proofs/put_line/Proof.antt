@@ -4,7 +4,7 @@ use Prim.Native.Nat.{_-_}
 use native.Mathlib.Omega.{arith}
 use borrow.Author.Needs.{needs}
 use lib.ListN.{length, getD}
-use Rattle.listing.specs.Lines.{shownBy}
+use Rattle.listing.specs.Steps.{shownBy}
 use Rattle.listing.proofs.Puts.{Put, put-length, shown-number, shown-byte}
 use Rattle.listing.proofs.Puts.{Laying, laying-start, laying-on, laying-done}
 use Rattle.listing.proofs.put_line.Statement.{statement}

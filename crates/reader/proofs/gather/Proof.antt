@@ -43,6 +43,6 @@ returns c = indices-all _ _ (c .loop-test .left) (c .before .loop .inv .1) (c .b
 pub gather-spec : {M : Type 1} → statement M
 gather-spec =
     tie.close
-    (tie.spec Inv-loop μ-loop (λ c κs. tt) loop-holds slice-aggregate-add-byte slice-aggregate-add-byte-2 add-byte-requires
-    (λ c. omega arith) (λ c. omega arith)
+    (tie.spec Inv-loop μ-loop (λ c κs. tt) loop-holds slice-aggregate-add-byte slice-aggregate-add-byte-2
+    add-byte-requires (λ c. omega arith) (λ c. omega arith)
     loop-again returns)
