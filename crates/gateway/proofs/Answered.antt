@@ -1,21 +1,24 @@
 -- The returns of the two functions for C: what was computed is what the definitions say, the result and the buffer.
 -- Assumes nothing.
 use mathlib.Core.Path.{_≡_, _∙_, sym, refl, ap}
+use mathlib.Core.Bool.{Bool, true, false}
 use mathlib.Core.List.{List}
 use Prim.Native.Nat.{ℕ, _+_, _*_, _^_, _<_}
 use native.Mathlib.Omega.{arith}
+use native.Mathlib.Decide.{ℕ-discrete}
 use borrow.Author.Tests.{eq-eqb, ne-eqb}
 use lib.IntN.{ℤ, pos}
 use lib.ListN.{length}
 use mir.Syntax.{w32}
 use mir.Val.{toZ}
 use mir.Facts.{toZ-pos}
-use Rattle.record.specs.declared.Record.{Record}
 use Rattle.frame.specs.Answers.{readingOf, correctionNumber, writtenOf, refusalOf, frameLeft}
 use Rattle.frame.specs.declared.Reading.{Reading}
 use Rattle.frame.specs.declared.Verdict.the-variants as Verdict
 use Rattle.frame.specs.declared.Written.{Written}
-use Rattle.gateway.specs.Pairs.{bytesOf, recordIn}
+use Rattle.pairs.specs.Pairs.{takenOf}
+use Rattle.pairs.specs.declared.Taken.{Taken}
+use Rattle.pairs.proofs.Whole.{Puts, was-put, was-not, was-taken, was-wrong}
 use Rattle.gateway.specs.Results.{refused, readResult, recordLeft, writeResult, frameLeftBy}
 use Rattle.gateway.proofs.Ranges.{reading-small}
 
@@ -29,19 +32,33 @@ module _ (s o : List ℕ) where
   unfolding readResult recordLeft
   wrong-record e = rw (ne-eqb (length o) 56 e) (refl, refl)
 
-  module _ (a : Reading) (long : length o ≡ 56) (is : a ≡ readingOf s) where
-    -- the frame is not eighteen bytes: -1, and the buffer stays
-    pub wrong-frame : a .verdict ≡ Verdict.WrongLength → Reads s o (refused 1) o
+  module _ (a : Reading) (is : a ≡ readingOf s) where
+    right-record : length o ≡ 56 → a .verdict ≡ Verdict.WrongLength → Reads s o (refused 1) o
     unfolding readResult recordLeft
-    wrong-frame v = rw (eq-eqb (length o) 56 long, ← is, v) (refl, refl)
+    right-record long v = rw (eq-eqb (length o) 56 long, ← is, v) (refl, refl)
+
+    -- the frame is not eighteen bytes: -1, and the buffer stays, whatever its length
+    pub wrong-frame : a .verdict ≡ Verdict.WrongLength → Reads s o (refused 1) o
+    wrong-frame v = go (ℕ-discrete (length o) 56)
+      where
+        go : Dec (length o ≡ 56) → Reads s o (refused 1) o
+        go (yes long) = right-record long v
+        go (no e) = wrong-record e
+
+    -- it was read, but the buffer has no 56 bytes
+    pub not-put : {b : Bool} {next : List ℕ} → Puts (a .indices) o b next → b ≡ false → Reads s o (refused 1) next
+    not-put p f = let w = was-not (a .indices) o p f in
+        (wrong-record (w .0) .0, w .1 ∙ wrong-record (w .0) .1)
 
     -- the mark and the correction number n of what was read are told, and its record put
-    pub was-read : (n : ℕ) (next : List ℕ) → a .verdict ≡ Verdict.Read → n ≡ correctionNumber a
-        → next ≡ bytesOf (a .indices)
+    pub was-read : {n : ℕ} {b : Bool} {next : List ℕ} → a .verdict ≡ Verdict.Read → n ≡ correctionNumber a
+        → Puts (a .indices) o b next → b ≡ true
         → Reads s o (toZ w32 (16 * a .mark + n)) next
     unfolding readResult recordLeft
-    was-read n next v numbered e =
-        rw (eq-eqb (length o) 56 long, ← is, v) (toZ-pos w32 small ∙ ap (λ (k : ℕ). pos (16 * a .mark + k)) numbered, e)
+    was-read {n} v numbered p t =
+        let w = was-put (a .indices) o p t in
+        rw (eq-eqb (length o) 56 (w .0), ← is, v)
+        (toZ-pos w32 small ∙ ap (λ (k : ℕ). pos (16 * a .mark + k)) numbered, w .1)
       where
         small : 16 * a .mark + n < 2 ^ 31
         small = rw (numbered, is) (let h = reading-small s in omega (arith, h))
@@ -50,16 +67,20 @@ module _ (s o : List ℕ) where
 abbrev pub Writes : List ℕ → List ℕ → ℤ → List ℕ → Type 0
 Writes s o z next = (z ≡ writeResult s (length o)) × (next ≡ frameLeftBy s o)
 
-module _ (s o : List ℕ) where
+module _ (s o : List ℕ) {t : Taken} (is : t ≡ takenOf s) where
   -- the record is not 56 bytes: -1, and the buffer stays
-  pub wrong-bytes : (length s ≡ 56 → ⊥) → Writes s o (refused 1) o
+  pub wrong-bytes : t .whole ≡ false → Writes s o (refused 1) o
   unfolding writeResult frameLeftBy
-  wrong-bytes e = rw (ne-eqb (length s) 56 e) (refl, refl)
+  wrong-bytes e = rw (ne-eqb (length s) 56 (was-wrong s is e)) (refl, refl)
 
-  -- a record was taken out of the bytes and its frame asked for
-  pub was-asked : (r : Record) (a w : Written) (next : List ℕ) → length s ≡ 56 → r ≡ recordIn s
-      → a ≡ writtenOf r (length o)
-      → next ≡ frameLeft r o → a ≡ w → Writes s o (refused (refusalOf w)) next
+  -- a record was taken out of the bytes, and its frame asked for
+  pub was-asked : {a : Written} {z : ℤ} {next : List ℕ} → t .whole ≡ true → a ≡ writtenOf (t .indices) (length o)
+      → next ≡ frameLeft (t .indices) o → z ≡ refused (refusalOf a) → Writes s o z next
   unfolding writeResult frameLeftBy
-  was-asked r a w next long is answered left case =
-      rw (eq-eqb (length s) 56 long, ← is) (ap (λ (x : Written). refused (refusalOf x)) (sym case ∙ answered), left)
+  was-asked e answered left told =
+      let w = was-taken s is e in
+      rw (eq-eqb (length s) 56 (w .0), ← (w .1)) (told ∙ ap (λ (x : Written). refused (refusalOf x)) answered, left)
+
+-- the returns of `result`
+pub told-by : (a : Written) {w : Written} → a ≡ w → refused (refusalOf w) ≡ refused (refusalOf a)
+told-by a e = ap (λ (x : Written). refused (refusalOf x)) (sym e)

@@ -1,5 +1,3 @@
-pub mod Pairs
 pub mod Ranges
 pub mod Answered
-pub mod Laws
 pub mod Determined

@@ -10,7 +10,7 @@ use Rattle.frame.specs.declared.Reading.{Reading}
 use Rattle.frame.specs.declared.Verdict.the-variants as Verdict
 use Rattle.frame.specs.declared.Written.{Written}
 use Rattle.frame.specs.declared.Written.the-variants as Written
-use Rattle.gateway.specs.Pairs.{bytesOf, recordIn}
+use Rattle.pairs.specs.Pairs.{bytesOf, recordIn}
 
 -- a refusal is minus its number; 0 is no refusal
 abbrev pub refused : ℕ → ℤ

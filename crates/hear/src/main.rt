@@ -3,11 +3,9 @@
 mod frames;
 mod line;
 
-use blocks::Cause;
-use blocks::Told;
 use input::Input;
 use libc::STDERR_FILENO;
-use passes::Counts;
+use lines::Line;
 use recording::Judged;
 use recording::Summary;
 
@@ -41,38 +39,19 @@ fn hear_input() {
     }
 }
 
-// Prints any bytes as a recording, and answers whether all was written, as the functions below do.
+// Prints any bytes as a recording, and answers whether all was written, as the functions below do. Its first line and its last, and
+// the one line of a recording that is refused, are those of the listing.
 fn hear(s: &[u8]) -> bool {
     match recording::judge(s) {
-        Judged::Refused(cause) => refused(cause),
+        Judged::Refused(cause) => line::listed(Line::Refused(cause)),
         Judged::Sound(summary) => sound(s, summary),
-    }
-}
-
-// `refused N at P`, as in the listing.
-fn refused(cause: Cause) -> bool {
-    let mut out = line::blank();
-    let number = line::told(
-        &mut out,
-        0,
-        b"refused",
-        refusals::refusal_number(cause) as u64,
-    );
-    let place = line::told(&mut out, number, b" at", place(cause));
-    line::written(&mut out, place)
-}
-
-// The place that is told, 65536 where none is.
-fn place(cause: Cause) -> u64 {
-    match refusals::tells(cause) {
-        Told::Nothing => 65536,
-        Told::Place(p) => p as u64,
     }
 }
 
 // The first line, the frames, the voice blocks and the last line.
 fn sound(s: &[u8], summary: Summary) -> bool {
-    if !head(summary) {
+    let heading = summary.heading;
+    if !line::listed(Line::Head(heading, summary.frames)) {
         return false;
     }
     if !frames::all(s, summary.frames) {
@@ -81,17 +60,7 @@ fn sound(s: &[u8], summary: Summary) -> bool {
     if !voices(s) {
         return false;
     }
-    last(summary.counts)
-}
-
-// `unit U recording N frames F`, as in the listing.
-fn head(summary: Summary) -> bool {
-    let heading = summary.heading;
-    let mut out = line::blank();
-    let unit = line::told(&mut out, 0, b"unit", heading.unit as u64);
-    let number = line::told(&mut out, unit, b" recording", heading.number as u64);
-    let frames = line::told(&mut out, number, b" frames", summary.frames as u64);
-    line::written(&mut out, frames)
+    line::listed(Line::Last(summary.counts.repaired, summary.counts.breaks))
 }
 
 // A line for each voice block, and one past the last.
@@ -118,12 +87,4 @@ fn block(s: &[u8], k: usize, size: usize) -> bool {
     let at = line::number(&mut out, number, span.from as u64);
     let long = line::number(&mut out, at, size as u64);
     line::written(&mut out, long)
-}
-
-// `repaired R breaks B`, as in the listing.
-fn last(counts: Counts) -> bool {
-    let mut out = line::blank();
-    let repaired = line::told(&mut out, 0, b"repaired", counts.repaired as u64);
-    let breaks = line::told(&mut out, repaired, b" breaks", counts.breaks as u64);
-    line::written(&mut out, breaks)
 }

@@ -1,5 +1,3 @@
-pub mod Puts
-pub mod Lines
 pub mod Frames
 pub mod Told
 pub mod Short

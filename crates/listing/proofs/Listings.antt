@@ -1,6 +1,6 @@
 -- The returns of `list`.
 -- Assumes nothing.
-use mathlib.Core.Path.{_≡_, _∙_, sym, ap, ap₂}
+use mathlib.Core.Path.{_≡_, _∙_, sym, ap}
 use mathlib.Core.List.{List, _++_}
 use Prim.Native.Nat.{ℕ, _+_, _-_, _<_, _≤_}
 use native.Mathlib.Omega.{arith}
@@ -19,13 +19,13 @@ use Rattle.blocks.specs.declared.Walked.{Walked}
 use Rattle.passes.specs.Pass.{begunAt}
 use Rattle.passes.specs.declared.Pass.{Pass}
 use Rattle.text.specs.Laid.{laid}
-use Rattle.text.proofs.Laid.{put-then}
-use Rattle.listing.specs.Lines.{headLine, refusedLine}
-use Rattle.listing.specs.Listing.{bodyOf, soundText, textBy, listingOf, room, listedOf, listingLeft}
+use Rattle.text.proofs.Laid.{Put, put-as, put-then}
+use Rattle.lines.specs.Lines.{lineOf}
+use Rattle.lines.specs.declared.Line.the-variants as Line
+use Rattle.listing.specs.Listing.{headOf, bodyOf, soundText, textBy, listingOf, room, listedOf, listingLeft}
 use Rattle.listing.specs.Promised.{ListingFits}
 use Rattle.listing.specs.declared.Listed.{Listed}
 use Rattle.listing.specs.declared.Listed.the-variants.{Text, WrongLength}
-use Rattle.listing.proofs.Puts.{Put, put-as}
 use Rattle.listing.proofs.Short.{listing-fits}
 
 -- what is answered, and what the buffer holds then
@@ -66,11 +66,11 @@ module _ (s o : List ℕ) (bytes : (i : ℕ) → getD s i 0 < 256) (long : lengt
         ∙ ap (λ (x : Walked). textBy (x .ending) (soundText (x .walk) (framesOf s))) is
 
     -- a refused recording
-    pub listed-refused : {cause : Cause} → w .ending ≡ Refused cause → {u : List ℕ} → u ≡ refusedLine cause
-        → {end : ℕ} {o′ : List ℕ} → Put o 0 u end o′
+    pub listed-refused : {cause : Cause} → w .ending ≡ Refused cause → {end : ℕ} {o′ : List ℕ}
+        → Put o 0 (lineOf (Line.Refused cause)) end o′
         → Answered s o (Text end) o′
-    listed-refused {cause} ends {u} line p = listed-whole (put-as o 0 u (listingOf s)
-        (line ∙ text-is (Refused cause) ends) p)
+    listed-refused {cause} ends p = listed-whole (put-as o 0 (lineOf (Line.Refused cause)) (listingOf s)
+        (text-is (Refused cause) ends) p)
 
     -- a sound one
     pub listed-sound : w .ending ≡ Sound → {end : ℕ} {o′ : List ℕ} → Put o 0 (soundText (w .walk) (framesOf s)) end o′
@@ -79,12 +79,11 @@ module _ (s o : List ℕ) (bytes : (i : ℕ) → getD s i 0 < 256) (long : lengt
         (text-is Sound ends) p)
 
 -- the return of `put_sound`: the first line, and then the frames, from a fresh state on
-pub sound-put : (o : List ℕ) (w : Walk) (frames : List (List ℕ)) {u : List ℕ} {fresh : State} {begun : Pass}
-    → u ≡ headLine w → fresh ≡ freshState
-    → begun ≡ begunAt (w .voices) fresh → {start end : ℕ} {o₁ o₂ : List ℕ} → Put o 0 u start o₁
+pub sound-put : (o : List ℕ) (w : Walk) (frames : List (List ℕ)) {fresh : State} {begun : Pass} → fresh ≡ freshState
+    → begun ≡ begunAt (w .voices) fresh → {start end : ℕ} {o₁ o₂ : List ℕ} → Put o 0 (headOf w) start o₁
     → Put o₁ start (bodyOf (begun .state) frames) end o₂ → Put o 0 (soundText w frames) end o₂
 unfolding soundText
-sound-put o w frames {u} {fresh} {begun} line same is p q =
-    put-as o 0 (u ++ bodyOf (begun .state) frames) (soundText w frames)
-    (ap₂ (λ (t : List ℕ) (x : State). t ++ bodyOf x frames) line (ap (λ (x : Pass). x .state) is ∙ same))
-    (put-then o 0 u (bodyOf (begun .state) frames) p q)
+sound-put o w frames {fresh} {begun} same is p q =
+    put-as o 0 (headOf w ++ bodyOf (begun .state) frames) (soundText w frames)
+    (ap (λ (x : State). headOf w ++ bodyOf x frames) (ap (λ (x : Pass). x .state) is ∙ same))
+    (put-then o 0 (headOf w) (bodyOf (begun .state) frames) p q)

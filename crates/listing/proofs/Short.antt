@@ -14,7 +14,7 @@ use Rattle.values.specs.Outcome as values
 use Rattle.values.specs.declared.State.{State}
 use Rattle.values.specs.declared.Outcome.{Outcome}
 use Rattle.values.specs.declared.Outcome.the-variants as Outcome
-use Rattle.values.proofs.Laws.{delays-four, delays-most}
+use Rattle.values.proofs.Laws.{delays-most}
 use Rattle.blocks.specs.Walk.{walkedOf}
 use Rattle.blocks.specs.Frames.{framesOf}
 use Rattle.blocks.specs.Refusals.{refusalOf, toldOf}
@@ -34,9 +34,9 @@ use Rattle.passes.proofs.Passes.{frames-most}
 use Rattle.text.specs.Ascii.{ascii}
 use Rattle.text.specs.Decimal.{decimal}
 use Rattle.text.proofs.Decimal.{decimal-most}
-use Rattle.listing.specs.Lines.{pairLine, headLine, fields, saidOf, frameText, frameLine, lastLine}
-use Rattle.listing.specs.Lines.{placeShown, refusedLine}
-use Rattle.listing.specs.Listing.{linesTo, bodyOf, soundText, textBy, listingOf, room}
+use Rattle.lines.specs.Lines.{pairLine, headLine, fields, restOf, frameLine, lastLine, placeShown, refusedLine}
+use Rattle.listing.specs.Listing.{saidOf, headOf, frameOf, lastOf, linesTo, bodyOf, soundText, textBy}
+use Rattle.listing.specs.Listing.{listingOf, room}
 use Rattle.listing.specs.Promised.{ListingFits}
 use Rattle.listing.proofs.Told.{Placed, walked-small, walked-placed}
 
@@ -53,14 +53,14 @@ pair-short first m second n a b c d =
     simp length-append (omega arith)
 
 -- the last line has at most a thousand bytes, with counts of at most twenty digits
-last-short : (c : Counts) → c .repaired < 10 ^ 20 → c .breaks < 10 ^ 20 → length (lastLine c) ≤ 1000
+last-short : (c : Counts) → c .repaired < 10 ^ 20 → c .breaks < 10 ^ 20 → length (lastOf c) ≤ 1000
 unfolding lastLine
 last-short c a b = let l = pair-short (ascii "repaired ") (c .repaired) (ascii " breaks ") (c .breaks) (omega arith)
     (omega arith) a b in omega arith
 
 -- and so has the first
 head-short : (w : Walk) → w .heading .unit < 10 ^ 20 → w .heading .number < 10 ^ 20 → w .frames < 10 ^ 20
-    → length (headLine w) ≤ 1000
+    → length (headOf w) ≤ 1000
 unfolding headLine
 head-short w a b c =
     let u = decimal-most (w .heading .unit) 20 (omega arith) a in
@@ -92,15 +92,6 @@ refused-short cause a =
 
 -- ---- the line of a frame
 
--- numbers of at most four digits, and one of at most d
-fields-short : (ns : List ℕ) → ((k : ℕ) → k < length ns → getD ns k 0 < 10 ^ 4) → length (fields ns) ≤ 5 * length ns
-unfolding fields
-fields-short [] h = omega arith
-fields-short (n ∷ ns) h =
-    let d : length (decimal n) ≤ 4 = decimal-most n 4 (omega arith) (h 0 (omega arith)) in
-    let l : length (fields ns) ≤ 5 * length ns = fields-short ns (λ k m. h (suc k) (omega arith)) in
-    simp length-append (omega arith)
-
 -- a number below 10 to the d takes at most a space and d bytes
 field-short : (n d : ℕ) (ns : List ℕ) → 1 ≤ d → n < 10 ^ d → length (fields (n ∷ ns)) ≤ d + 1 + length (fields ns)
 unfolding fields
@@ -119,40 +110,46 @@ outcome-small Outcome.Expansion = omega arith
 outcome-small Outcome.Nothing = omega arith
 
 module _ (before : State) (f : List ℕ) where
-  delays-short : length (fields (valuesOf (readingOf f .indices) before .delays)) ≤ 20
-  delays-short =
-      let four = delays-four (readingOf f .indices) before in
-      let l = fields-short (valuesOf (readingOf f .indices) before .delays)
-      (λ k h. let m = delays-most (readingOf f .indices) before k (omega arith) in omega arith) in
+  -- a delay takes at most a space and four digits
+  delay-short : (k : ℕ) → k < 4 → (ns : List ℕ)
+      → length (fields (getD (valuesOf (readingOf f .indices) before .delays) k 0 ∷ ns)) ≤ 5 + length (fields ns)
+  delay-short k h ns =
+      let m = delays-most (readingOf f .indices) before k h in
+      let l = field-short (getD (valuesOf (readingOf f .indices) before .delays) k 0) 4 ns (omega arith) (omega arith) in
       omega arith
 
-  numbers-short : length (fields (readingOf f .mark ∷ readingOf f .indices .sy
-      ∷ valuesOf (readingOf f .indices) before .delays)) ≤ 24
+  numbers-short : let d = valuesOf (readingOf f .indices) before .delays in
+      length (fields (readingOf f .mark ∷ readingOf f .indices .sy ∷ getD d 0 0 ∷ getD d 1 0 ∷ getD d 2 0 ∷ getD d 3 0
+      ∷ [])) ≤ 24
   numbers-short =
       let r = readingOf f in
       let d = valuesOf (r .indices) before .delays in
-      let y = field-short (r .indices .sy) 1 d (omega arith) (let s = reading-sync f in omega arith) in
-      let m = field-short (r .mark) 1 (r .indices .sy ∷ d) (omega arith)
+      let fourth = delay-short 3 (omega arith) [] in
+      let third = delay-short 2 (omega arith) (getD d 3 0 ∷ []) in
+      let second = delay-short 1 (omega arith) (getD d 2 0 ∷ getD d 3 0 ∷ []) in
+      let four = getD d 0 0 ∷ getD d 1 0 ∷ getD d 2 0 ∷ getD d 3 0 ∷ [] in
+      let first = delay-short 0 (omega arith) (getD d 1 0 ∷ getD d 2 0 ∷ getD d 3 0 ∷ []) in
+      let y = field-short (r .indices .sy) 1 four (omega arith) (let s = reading-sync f in omega arith) in
+      let m = field-short (r .mark) 1 (r .indices .sy ∷ four) (omega arith)
       (let s = reading-range f .marked in omega arith) in
-      let l = delays-short in
+      let z = fields-none in
       omega arith
 
-  said-short : length (saidOf (values.refusalOf (valuesOf (readingOf f .indices) before .outcome)) (readingOf f .mark)
-      (readingOf f .indices .sy) (valuesOf (readingOf f .indices) before .delays)) ≤ 24
-  unfolding saidOf
-  said-short =
+  rest-short : (n : ℕ) → length (restOf (saidOf n (hearingOf before f))) ≤ 24
+  unfolding restOf hearingOf
+  rest-short n =
       let o = valuesOf (readingOf f .indices) before .outcome in
       chosen (λ (t : List ℕ). length t ≤ 24) (eqb (values.refusalOf o) 0) (λ e. numbers-short)
       (λ e. let l = decimal-most (values.refusalOf o) 1 (omega arith) (outcome-small o)
       in simp length-append (omega arith))
 
-  line-short : (n : ℕ) → n < 10 ^ 4 → length (frameLine n (hearingOf before f)) ≤ 35
-  unfolding frameText hearingOf
+  line-short : (n : ℕ) → n < 10 ^ 4 → length (frameOf n (hearingOf before f)) ≤ 35
+  unfolding frameLine hearingOf
   line-short n h =
       let a : length (decimal n) ≤ 4 = decimal-most n 4 (omega arith) h in
       let b = field-short (readingOf f .number) 2 [] (omega arith) (let s = reading-range f .numbered in omega arith) in
       let c = fields-none in
-      let l = said-short in
+      let l = rest-short n in
       simp length-append (omega arith)
 
 -- the lines of the first k frames take at most 35 bytes a frame

@@ -25,7 +25,7 @@ use Rattle.blocks.specs.declared.Moved.{Moved}
 use Rattle.blocks.specs.declared.Moved.the-variants.{On, Done}
 use Rattle.blocks.proofs.Blocks.{head-held, end-held}
 use Rattle.blocks.proofs.Walks.{step-on, step-further, walked-keeps, walked-stops, too-long}
-use Rattle.listing.specs.Lines.{placeShown}
+use Rattle.lines.specs.Lines.{placeShown}
 
 -- ---- the place of a refusal
 

@@ -1,4 +1,2 @@
-pub mod Lines
 pub mod Listing
 pub mod Promised
-pub mod Steps

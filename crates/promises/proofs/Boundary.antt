@@ -15,9 +15,9 @@ use Rattle.frame.specs.declared.Verdict.the-variants as Verdict
 use Rattle.frame.specs.declared.Written.{Written}
 use Rattle.frame.specs.declared.Written.the-variants as Written
 use Rattle.frame.proofs.Answered.{read-eighteen}
-use Rattle.gateway.specs.Pairs.{bytesOf, pairIn, recordIn}
+use Rattle.pairs.specs.Pairs.{bytesOf, pairIn, recordIn}
 use Rattle.gateway.specs.Results.{refused, readResult, recordLeft, writeResult, frameLeftBy}
-use Rattle.gateway.proofs.Laws.{record-of-bytes, bytes-of-record}
+use Rattle.pairs.proofs.Laws.{record-of-bytes, bytes-of-record}
 use Rattle.gateway.proofs.Ranges.{reading-apart}
 use Rattle.promises.specs.Frames.{Shaped, ReadsBack}
 use Rattle.promises.specs.Boundary.{PairsHoldRecord, ReadTells, WriteTells, BoundaryReadsBack}

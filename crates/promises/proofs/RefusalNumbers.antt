@@ -47,7 +47,7 @@ use Rattle.blocks.specs.declared.Ending.the-variants as Ending
 use Rattle.recording.specs.Judged.{judgedOf, judgedRefusal, judgedTells}
 use Rattle.recording.specs.declared.Judged.{Judged}
 use Rattle.recording.specs.declared.Judged.the-variants as Judged
-use Rattle.gateway.specs.Pairs.{recordIn}
+use Rattle.pairs.specs.Pairs.{recordIn}
 use Rattle.gateway.specs.Results.{refused, readResult, writeResult}
 use Rattle.promises.specs.Refused.{WriterGives, WriterRefuses, HearingGives, HearingRefuses, HertzGives}
 use Rattle.promises.specs.Refused.{HertzRefuses, MeaningGives, MeaningRefuses, CodingGives, DelaysRefuse}

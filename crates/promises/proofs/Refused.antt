@@ -50,7 +50,7 @@ use Rattle.values.specs.declared.Outcome.the-variants.{Heard, TooLarge, Expansi
 use Rattle.values.proofs.Laws.{by-outcome, outcome-too-large, outcome-expansion, outcome-heard, values-outcome}
 use Rattle.values.proofs.Laws.{refused-state}
 use Rattle.values.proofs.Laws.{nothing-outcome, nothing-state, bits-are-widths}
-use Rattle.gateway.specs.Pairs.{recordIn}
+use Rattle.pairs.specs.Pairs.{recordIn}
 use Rattle.gateway.specs.Results.{refused, readAnswer, readResult, readInto, recordLeft, writeResult, frameLeftBy}
 use Rattle.promises.specs.Refused.{ReaderRefuses, LowestTooLarge, Ordered, LowestFall, WriterGives, WriterRefuses}
 use Rattle.promises.specs.Refused.{RefusedFrameStays, RefusedReadStays, RefusedWriteStays}

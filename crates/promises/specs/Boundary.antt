@@ -9,7 +9,7 @@ use lib.ListN.{length, getD}
 use Rattle.record.specs.declared.Record.{Record}
 use Rattle.frame.specs.Frame.{frameOf}
 use Rattle.frame.specs.Answers.{readingOf, correctionNumber, writtenOf, refusalOf}
-use Rattle.gateway.specs.Pairs.{bytesOf, recordIn}
+use Rattle.pairs.specs.Pairs.{bytesOf, recordIn}
 use Rattle.gateway.specs.Results.{readResult, recordLeft, writeResult, frameLeftBy}
 use Rattle.promises.specs.Frames.{Shaped}
 

@@ -26,7 +26,7 @@ use Rattle.blocks.specs.Refusals.{walkedRefusal, walkedTells}
 use Rattle.blocks.specs.declared.Cause.the-variants.{TooLong, HeaderCut, PastEnd, WrongSize, UnknownKind, OutOfTurn}
 use Rattle.blocks.specs.declared.Cause.the-variants.{EndMissing, WrongCount, Extra}
 use Rattle.recording.specs.Judged.{judgedOf, judgedRefusal, judgedTells}
-use Rattle.gateway.specs.Pairs.{recordIn}
+use Rattle.pairs.specs.Pairs.{recordIn}
 use Rattle.gateway.specs.Results.{readResult, writeResult}
 use Rattle.promises.specs.Refused.{AllFit, LowestTooLarge, Ordered, LowestFall, AllWithin, LowestOver}
 use Rattle.promises.specs.Refused.{FirstTooLarge, Means, FirstNotListed, FirstOutside, Sends}

@@ -149,10 +149,32 @@ after-then o at t u =
     let e : length (laid o at t) ≡ length o = length-laid o at t in
     simp length-append (omega arith)
 
--- what two puts ensure, one after the other, is what one put of both texts would
-pub put-then : (o : List ℕ) (at : ℕ) (t u : List ℕ) {o₁ o₂ : List ℕ} {at₁ at₂ : ℕ} → (at₁ ≡ after o at t)
-    × (o₁ ≡ laid o at t) → (at₂ ≡ after o₁ at₁ u) × (o₂ ≡ laid o₁ at₁ u)
-    → (at₂ ≡ after o at (t ++ u)) × (o₂ ≡ laid o at (t ++ u))
+-- ---- what puts ensure
+
+-- a text is laid at a position: the position after it, and the buffer then
+abbrev pub Put : List ℕ → ℕ → List ℕ → ℕ → List ℕ → Type 0
+Put o at t at′ o′ = (at′ ≡ after o at t) × (o′ ≡ laid o at t)
+
+-- the same text, said otherwise
+pub put-as : (o : List ℕ) (at : ℕ) (t u : List ℕ) {at′ : ℕ} {o′ : List ℕ} → t ≡ u → Put o at t at′ o′
+    → Put o at u at′ o′
+put-as o at t u e p = (p .0 ∙ ap (after o at) e, p .1 ∙ ap (laid o at) e)
+
+-- nothing, at a position held at the buffer's end
+pub put-nothing : (o : List ℕ) (at : ℕ) {at′ : ℕ} → at′ ≡ min at (length o) → Put o at [] at′ o
+put-nothing o at e = (omega arith, sym (laid-none o at))
+
+-- the buffer is as long as it was
+pub put-length : (o : List ℕ) (at : ℕ) (t : List ℕ) {at′ : ℕ} {o′ : List ℕ} → Put o at t at′ o′ → length o′ ≡ length o
+put-length o at t p = ap length (p .1) ∙ length-laid o at t
+
+-- the position after a put is in the buffer or at its end
+pub put-within : (o : List ℕ) (at : ℕ) (t : List ℕ) {at′ : ℕ} {o′ : List ℕ} → Put o at t at′ o′ → at′ ≤ length o′
+put-within o at t p = omega (arith, p .0, put-length o at t p)
+
+-- two puts, one after the other, are one put of both texts
+pub put-then : (o : List ℕ) (at : ℕ) (t u : List ℕ) {o₁ o₂ : List ℕ} {at₁ at₂ : ℕ} → Put o at t at₁ o₁
+    → Put o₁ at₁ u at₂ o₂ → Put o at (t ++ u) at₂ o₂
 put-then o at t u p q = (
   q .0 ∙ ap₂ (λ (l : List ℕ) (k : ℕ). after l k u) (p .1) (p .0) ∙ after-then o at t u,
   q .1 ∙ ap₂ (λ (l : List ℕ) (k : ℕ). laid l k u) (p .1) (p .0) ∙ laid-then o at t u,

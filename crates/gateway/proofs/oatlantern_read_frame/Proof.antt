@@ -1,49 +1,45 @@
--- `gateway::oatlantern_read_frame` meets its contract: the refusals, then what was read.
+-- `gateway::oatlantern_read_frame` meets its contract: what was read and put, or the refusal.
 -- Assumes nothing.
 use Prim.Native.Nat.{_+_, _*_, _<_}
 use native.Mathlib.Omega.{arith}
 use borrow.Author.Needs.{needs, sfits-of}
 use Rattle.gateway.proofs.Ranges.{reading-small}
-use Rattle.gateway.proofs.Answered.{wrong-record, wrong-frame, was-read}
+use Rattle.gateway.proofs.Answered.{wrong-frame, not-put, was-read}
 use Rattle.gateway.proofs.oatlantern_read_frame.Statement.{statement}
 use Rattle.gateway.proofs.oatlantern_read_frame.Tie as tie
 
--- where the number has been asked for, `read` was seven places before
-small : (c : tie.After-correction-number) → let at-read = c .before .before .before .before .before .before .before in
-    16 * at-read .read .result .mark + c .correction-number .result < 160
-small c =
-    let at-read = c .before .before .before .before .before .before .before in
-    rw (c .correction-number .ensures, at-read .read .ensures) (reading-small _)
-
-returns : tie.Need-returns
-returns c = wrong-record _ _ (c .if1 .taken)
+-- where the number has been asked for, `read` was three places before
+small : (c : tie.After-correction-number)
+    → 16 * c .before .before .before .read .result .mark + c .correction-number .result < 160
+small c = rw (c .correction-number .ensures, c .before .before .before .read .ensures) (reading-small _)
 
 mul-result : tie.Need-mul-result
-mul-result c = let h = small (c .before) in omega (arith, h)
+mul-result c = let h = small (c .before .before .before .before .before .before) in omega (arith, h)
 
 add-result : tie.Need-add-result
-add-result c = let h = small (c .before) in omega (arith, h)
+add-result c = let h = small (c .before .before .before .before .before .before) in omega (arith, h)
 
 cast-result : tie.Need-cast-result
-cast-result c = let h = small (c .before) in sfits-of (omega (arith, h))
+cast-result c = let h = small (c .before .before .before .before .before .before) in sfits-of (omega (arith, h))
+
+returns : tie.Need-returns
+returns c =
+    let p = c .before .before .before .before in
+    let n = p .before .before in
+    let r = n .before .before .before in
+    was-read _ _ _ (r .read .ensures) (n .before .enum-told .given .1) (n .correction-number .ensures)
+    (p .put .ensures) (c .before .if1 .taken)
 
 returns-2 : tie.Need-returns-2
 returns-2 c =
-    let at-put = c .before .before .before .before in
-    let at-told = at-put .before .before in
-    let at-read = at-told .before .before in
-    was-read _ _ _ (at-read .before .if1 .left) (at-read .read .ensures) _ _ (at-told .enum-told .given .1)
-    (c .before .correction-number .ensures)
-    (at-put .put .ensures)
+    let p = c .before .before .before in
+    not-put _ _ _ (p .before .before .before .before .before .read .ensures) (p .put .ensures) (c .if1 .left)
 
 returns-3 : tie.Need-returns-3
-returns-3 c =
-    let at-read = c .before .before in
-    wrong-frame _ _ _ (at-read .before .if1 .left) (at-read .read .ensures) (c .enum-told2 .given .1)
+returns-3 c = wrong-frame _ _ _ (c .before .before .read .ensures) (c .enum-told2 .given .1)
 
 pub oatlantern-read-frame-spec : {M : Type 1} → statement M
 oatlantern-read-frame-spec =
     tie.close
-    (tie.spec returns (search needs) (search needs) (search needs) (search needs) mul-result add-result cast-result
-    (search needs) (search needs) returns-2
-    returns-3)
+    (tie.spec (λ c κs. tt) (search needs) (λ c κs. tt) (λ c κs. tt) mul-result add-result cast-result (search needs)
+    returns (search needs) (search needs) returns-2 returns-3)

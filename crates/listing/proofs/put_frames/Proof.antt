@@ -3,7 +3,7 @@ use Prim.Native.Nat.{_-_}
 use lib.ListN.{length}
 use Rattle.blocks.specs.Frames.{framesOf}
 use Rattle.passes.proofs.Through.{step-further}
-use Rattle.listing.proofs.Puts.{put-length, put-within}
+use Rattle.text.proofs.Laid.{put-length}
 use Rattle.listing.proofs.Frames.{Listing, listing-start, listing-on, listing-done}
 use Rattle.listing.proofs.put_frames.Statement.{statement}
 use Rattle.listing.proofs.put_frames.Tie as tie
@@ -17,25 +17,15 @@ abbrev μ-loop : tie.MeasureT-loop
 loop-holds : tie.Need-loop-holds Inv-loop μ-loop
 loop-holds c = listing-start _ _ _ _ (c .before .before .pre .0) (c .before .before .pre .1)
 
-put-line-requires : tie.Need-put-line-requires Inv-loop μ-loop
-put-line-requires c κs =
-    (put-within _ _ _ (c .before .before .before .before .before .before .loop .inv .put), c .last-line .ensures .0)
-
 returns : tie.Need-returns Inv-loop μ-loop
 returns c =
     let p = c .before .before in
-    let t = p .before .before .before in
+    let t = p .before .before in
     let n = t .before .before .before in
-    listing-done (n .before .loop .inv) (n .next .ensures) (t .if1 .taken) (p .before .last-line .ensures .1)
-    (p .put-line .ensures)
+    listing-done (n .before .loop .inv) (n .next .ensures) (t .if1 .taken) (p .put .ensures)
 
 same-length : tie.Need-same-length Inv-loop μ-loop
 same-length c = put-length _ _ _ (returns c)
-
-put-line-requires-2 : tie.Need-put-line-requires-2 Inv-loop μ-loop
-put-line-requires-2 c κs =
-    let n = c .before .before .before .before .before in
-    (put-within _ _ _ (n .before .before .loop .inv .put), c .frame-line .ensures .0)
 
 loop-less : tie.Need-loop-less Inv-loop μ-loop
 loop-less c =
@@ -49,11 +39,10 @@ loop-again c =
     let p = c .before .before in
     let e = p .before .before .before .before in
     let n = e .before .before .before in
-    listing-on (n .before .loop .inv) (n .next .ensures) (e .if1 .left) (p .before .frame-line .ensures .1)
-    (p .put-line2 .ensures)
+    listing-on (n .before .loop .inv) (n .next .ensures) (e .if1 .left) (p .before .said .ensures) (p .put2 .ensures)
 
 pub put-frames-spec : {M : Type 1} → statement M
 put-frames-spec =
     tie.close
-    (tie.spec Inv-loop μ-loop loop-holds (λ c κs. tt) (λ c κs. tt) put-line-requires same-length returns (λ c κs. tt)
-    put-line-requires-2 loop-less loop-again)
+    (tie.spec Inv-loop μ-loop loop-holds (λ c κs. tt) (λ c κs. tt) same-length returns (λ c κs. tt) (λ c κs. tt)
+    loop-less loop-again)

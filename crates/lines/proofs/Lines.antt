@@ -1,0 +1,89 @@
+-- The lines: the text of each form with its numbers is that line.
+-- Assumes nothing.
+use mathlib.Core.Path.{_≡_, _∙_, sym, refl, ap}
+use mathlib.Core.List.{List, [], _∷_, _++_, append-assoc, append-nil}
+use Prim.Native.Nat.{ℕ}
+use borrow.Author.Tests.{eq-eqb, ne-eqb}
+use Rattle.blocks.specs.Refusals.{refusalOf, toldOf}
+use Rattle.blocks.specs.declared.Cause.{Cause}
+use Rattle.blocks.specs.declared.Heading.{Heading}
+use Rattle.blocks.specs.declared.Told.{Told}
+use Rattle.text.specs.Ascii.{ascii}
+use Rattle.text.specs.Decimal.{decimal}
+use Rattle.lines.specs.Lines.{pairLine, headLine, fields, restOf, frameLine, lastLine, placeShown, refusedLine}
+use Rattle.lines.specs.Lines.{lineOf}
+use Rattle.lines.specs.Forms.{filledIn, Shows}
+use Rattle.lines.specs.declared.Form.{Form}
+use Rattle.lines.specs.declared.Line.{Line}
+use Rattle.lines.specs.declared.Said.{Said}
+
+-- eight numbers of which a form shows the first two
+abbrev two : ℕ → ℕ → List ℕ
+two m n = m ∷ n ∷ 0 ∷ 0 ∷ 0 ∷ 0 ∷ 0 ∷ 0 ∷ []
+
+-- or three
+abbrev three : ℕ → ℕ → ℕ → List ℕ
+three l m n = l ∷ m ∷ n ∷ 0 ∷ 0 ∷ 0 ∷ 0 ∷ 0 ∷ []
+
+-- the return of `head`
+pub head-text : (h : Heading) (frames : ℕ)
+    → filledIn (three (h .unit) (h .number) frames) (ascii "unit \0 recording \u{1} frames \u{2}\n")
+    ≡ headLine h frames
+unfolding filledIn headLine pairLine
+head-text h frames = simp append-assoc
+
+-- the return of `last`
+pub last-text : (repaired breaks : ℕ) → filledIn (two repaired breaks) (ascii "repaired \0 breaks \u{1}\n")
+    ≡ lastLine repaired breaks
+unfolding filledIn lastLine pairLine
+last-text repaired breaks = simp append-assoc
+
+-- the return of `refused`
+pub refused-text : (cause : Cause) {number place : ℕ} {tells : Told} → number ≡ refusalOf cause → tells ≡ toldOf cause
+    → place ≡ placeShown tells
+    → filledIn (two number place) (ascii "refused \0 at \u{1}\n") ≡ refusedLine cause
+unfolding filledIn refusedLine pairLine
+refused-text cause n t l = rw (l ∙ ap placeShown t, n) (simp append-assoc)
+
+-- the returns of `place_shown`
+pub shown : (t : Told) {u : Told} {n : ℕ} → t ≡ u → n ≡ placeShown u → n ≡ placeShown t
+shown t e is = is ∙ ap placeShown (sym e)
+
+-- numbers, each after a space, and then a text
+unfoldable spaced : List ℕ → List ℕ → List ℕ
+spaced [] t = t
+spaced (n ∷ ns) t = ascii " " ++ (decimal n ++ spaced ns t)
+
+-- fields and then a text are that
+spaced-out : (ns t : List ℕ) → fields ns ++ t ≡ spaced ns t
+unfolding fields spaced
+spaced-out [] t = refl
+spaced-out (n ∷ ns) t =
+    append-assoc (ascii " " ++ decimal n) (fields ns) t
+    ∙ ap (λ (l : List ℕ). ascii " " ++ (decimal n ++ l)) (spaced-out ns t)
+
+-- the returns of `frame`
+module _ (x : Said) where
+  -- of a frame that is refused the refusal is said
+  pub said-refused : (x .refusal ≡ 0 → ⊥)
+      → filledIn (three (x .number) (x .correction) (x .refusal)) (ascii "\0 \u{1} refused \u{2}\n") ≡ frameLine x
+  unfolding filledIn frameLine restOf fields
+  said-refused w = rw (ne-eqb (x .refusal) 0 w) (simp (append-assoc, append-nil))
+
+  -- of one that is heard its numbers
+  pub said-heard : x .refusal ≡ 0
+      → filledIn
+      (x .number ∷ x .correction ∷ x .mark ∷ x .sy ∷ x .first ∷ x .second ∷ x .third ∷ x .fourth ∷ [])
+      (ascii "\0 \u{1} \u{2} \u{3} \u{4} \u{5} \u{6} \u{7}\n") ≡ frameLine x
+  unfolding filledIn frameLine restOf spaced
+  said-heard z =
+      let ms = x .mark ∷ x .sy ∷ x .first ∷ x .second ∷ x .third ∷ x .fourth ∷ [] in
+      sym (rw (eq-eqb (x .refusal) 0 z)
+      (append-assoc (decimal (x .number) ++ fields (x .correction ∷ [])) (fields ms) (ascii "\n")
+      ∙ append-assoc (decimal (x .number)) (fields (x .correction ∷ [])) (fields ms ++ ascii "\n")
+      ∙ ap (λ (t : List ℕ). decimal (x .number) ++ t) (spaced-out (x .correction ∷ []) (fields ms ++ ascii "\n")
+      ∙ ap (spaced (x .correction ∷ [])) (spaced-out ms (ascii "\n")))))
+
+-- the returns of `form_of`: the line is one of its cases
+pub shows-line : (line : Line) {one : Line} (f : Form) → line ≡ one → Shows f (lineOf one) → Shows f (lineOf line)
+shows-line line f e s = (s .0, s .1 ∙ ap lineOf (sym e))

@@ -1,0 +1,63 @@
+-- The lines of a listing (document 01, "The listing program"). Fields are one space apart and each line ends in a
+-- newline.
+use mathlib.Core.Bool.{cond}
+use mathlib.Core.List.{List, [], _∷_, _++_}
+use Prim.Native.Nat.{ℕ}
+use lib.Dec.{eqb}
+use Rattle.blocks.specs.Walk.{longest}
+use Rattle.blocks.specs.Refusals.{refusalOf, toldOf}
+use Rattle.blocks.specs.declared.Cause.{Cause}
+use Rattle.blocks.specs.declared.Heading.{Heading}
+use Rattle.blocks.specs.declared.Told.{Told}
+use Rattle.blocks.specs.declared.Told.the-variants.{Nothing, Place}
+use Rattle.text.specs.Ascii.{ascii}
+use Rattle.text.specs.Decimal.{decimal}
+use Rattle.lines.specs.declared.Line.{Line}
+use Rattle.lines.specs.declared.Line.the-variants.{Head, Frame, Last, Refused}
+use Rattle.lines.specs.declared.Said.{Said}
+
+-- a word and the number that it tells, and a line of two such
+abbrev pub told : List ℕ → ℕ → List ℕ
+told word n = word ++ decimal n
+
+unfoldable pub pairLine : List ℕ → ℕ → List ℕ → ℕ → List ℕ
+pairLine first m second n = told first m ++ told second n ++ ascii "\n"
+
+-- first line: unit, recording number, frames
+unfoldable pub headLine : Heading → ℕ → List ℕ
+headLine h frames =
+    told (ascii "unit ") (h .unit) ++ pairLine (ascii " recording ") (h .number) (ascii " frames ") frames
+
+-- numbers that follow a field, each one space after the one before
+unfoldable pub fields : List ℕ → List ℕ
+fields [] = []
+fields (n ∷ ns) = ascii " " ++ decimal n ++ fields ns
+
+-- after the correction number: order mark, SY, four delays in twelfths; or the refusal, where there is one (not 0)
+unfoldable pub restOf : Said → List ℕ
+restOf x =
+    cond (eqb (x .refusal) 0)
+    (fields (x .mark ∷ x .sy ∷ x .first ∷ x .second ∷ x .third ∷ x .fourth ∷ [])) (told (ascii " refused ") (x .refusal))
+
+-- a line for each frame: frame number, correction number, and the rest
+unfoldable pub frameLine : Said → List ℕ
+frameLine x = decimal (x .number) ++ fields (x .correction ∷ []) ++ restOf x ++ ascii "\n"
+
+-- last line: repaired frames and sync breaks
+unfoldable pub lastLine : ℕ → ℕ → List ℕ
+lastLine repaired breaks = pairLine (ascii "repaired ") repaired (ascii " breaks ") breaks
+
+-- the one line of a refused recording: the refusal's number and the place it tells, 65536 where it tells nothing
+abbrev pub placeShown : Told → ℕ
+placeShown Nothing = longest
+placeShown (Place p) = p
+
+unfoldable pub refusedLine : Cause → List ℕ
+refusedLine cause = pairLine (ascii "refused ") (refusalOf cause) (ascii " at ") (placeShown (toldOf cause))
+
+-- any line
+abbrev pub lineOf : Line → List ℕ
+lineOf (Head h frames) = headLine h frames
+lineOf (Frame x) = frameLine x
+lineOf (Last repaired breaks) = lastLine repaired breaks
+lineOf (Refused cause) = refusedLine cause

@@ -1,0 +1,157 @@
+// The lines of a listing, laid into a lent buffer as `text` lays words: each put answers the position after its line, held at
+// the buffer's end. What has no room is left out, and no other byte changes.
+use blocks::Cause;
+use blocks::Heading;
+use blocks::Told;
+ghost use mathlib.Core.Path.{_≡_};
+ghost use Prim.Native.Nat.{_≤_};
+ghost use Rattle.text.specs.Laid.{laid, after};
+ghost use Rattle.lines.specs.Lines.{headLine, frameLine, lastLine, placeShown, refusedLine, lineOf};
+ghost use Rattle.lines.specs.Forms.{formText, Shows};
+
+// What is said of a frame: its number, its correction number, and its order mark, SY and four delays; or, where it is not 0, the
+// refusal of its values.
+pub struct Said {
+    pub number: u32,
+    pub correction: usize,
+    pub refusal: u32,
+    pub mark: usize,
+    pub sy: u16,
+    pub first: u16,
+    pub second: u16,
+    pub third: u16,
+    pub fourth: u16,
+}
+
+// A line: the first, with how many frames follow it; that of a frame; the last, with the repaired frames and the breaks; and the
+// one line of a refused recording.
+pub enum Line {
+    Head(Heading, u32),
+    Frame(Said),
+    Last(u32, u32),
+    Refused(Cause),
+}
+
+// A line as it is to be laid: the first bytes of its form, in which each byte below 8 stands for the number at that place.
+pub struct Form {
+    pub bytes: [u8; 28],
+    pub size: usize,
+    pub numbers: [u64; 8],
+}
+
+// Lays a line.
+pub fn put(out: &mut [u8], at: usize, line: Line) -> usize
+    ensures { λ r. ⌜ r ≡ after (now (out .entry)) at (lineOf line) ⌝ }
+    ensures { λ _. ⌜ now (out .exit) ≡ laid (now (out .entry)) at (lineOf line) ⌝ }
+{
+    put_form(out, at, form_of(line))
+}
+
+// Lays a form: each of its bytes, or the number that it stands for.
+fn put_form(out: &mut [u8], at: usize, form: Form) -> usize
+    requires { ⌜ form .size ≤ 28 ⌝ }
+    ensures { λ r. ⌜ r ≡ after (now (out .entry)) at (formText form) ⌝ }
+    ensures { λ _. ⌜ now (out .exit) ≡ laid (now (out .entry)) at (formText form) ⌝ }
+{
+    let mut end = text::least(at, out.len());
+    let mut i = 0;
+    while i < form.size {
+        let c = form.bytes[i];
+        if c < 8 {
+            end = decimals::put_number(out, end, form.numbers[c as usize]);
+        } else {
+            end = text::put_byte(out, end, c);
+        }
+        i += 1;
+    }
+    end
+}
+
+// The form of a line.
+fn form_of(line: Line) -> Form
+    ensures { λ r. ⌜ Shows r (lineOf line) ⌝ }
+{
+    match line {
+        Line::Head(heading, frames) => head(heading, frames),
+        Line::Frame(said) => frame(said),
+        Line::Last(repaired, breaks) => last(repaired, breaks),
+        Line::Refused(cause) => refused(cause),
+    }
+}
+
+// The first line.
+fn head(heading: Heading, frames: u32) -> Form
+    ensures { λ r. ⌜ Shows r (headLine heading frames) ⌝ }
+{
+    let unit = heading.unit as u64;
+    let number = heading.number as u64;
+    Form {
+        bytes: *b"unit \x00 recording \x01 frames \x02\n",
+        size: 28,
+        numbers: [unit, number, frames as u64, 0, 0, 0, 0, 0],
+    }
+}
+
+// The line of a frame.
+fn frame(said: Said) -> Form
+    ensures { λ r. ⌜ Shows r (frameLine said) ⌝ }
+{
+    let number = said.number as u64;
+    let correction = said.correction as u64;
+    let refusal = said.refusal as u64;
+    if refusal != 0 {
+        return Form {
+            bytes: *b"\x00 \x01 refused \x02\n              ",
+            size: 14,
+            numbers: [number, correction, refusal, 0, 0, 0, 0, 0],
+        };
+    }
+    Form {
+        bytes: *b"\x00 \x01 \x02 \x03 \x04 \x05 \x06 \x07\n            ",
+        size: 16,
+        numbers: [
+            number,
+            correction,
+            said.mark as u64,
+            said.sy as u64,
+            said.first as u64,
+            said.second as u64,
+            said.third as u64,
+            said.fourth as u64,
+        ],
+    }
+}
+
+// The last line.
+fn last(repaired: u32, breaks: u32) -> Form
+    ensures { λ r. ⌜ Shows r (lastLine repaired breaks) ⌝ }
+{
+    Form {
+        bytes: *b"repaired \x00 breaks \x01\n        ",
+        size: 20,
+        numbers: [repaired as u64, breaks as u64, 0, 0, 0, 0, 0, 0],
+    }
+}
+
+// The one line of a recording that is refused.
+fn refused(cause: Cause) -> Form
+    ensures { λ r. ⌜ Shows r (refusedLine cause) ⌝ }
+{
+    let number = refusals::refusal_number(cause) as u64;
+    let place = place_shown(refusals::tells(cause));
+    Form {
+        bytes: *b"refused \x00 at \x01\n             ",
+        size: 15,
+        numbers: [number, place, 0, 0, 0, 0, 0, 0],
+    }
+}
+
+// The place that is printed with a refusal.
+fn place_shown(told: Told) -> u64
+    ensures { λ r. ⌜ r ≡ placeShown told ⌝ }
+{
+    match told {
+        Told::Nothing => 65536,
+        Told::Place(p) => p as u64,
+    }
+}

@@ -1,0 +1,4 @@
+pub mod Pairs
+pub mod Whole
+pub mod Laws
+pub mod Determined
