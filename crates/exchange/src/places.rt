@@ -71,7 +71,7 @@ pub fn next(s: &[u8], n: usize) {
         counts,
         state,
     };
-    let step = passes::next(s, pass);
+    let step = steps::next(s, pass);
     let after = step.pass;
     passed(after);
 }

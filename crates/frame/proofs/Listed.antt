@@ -1,15 +1,17 @@
 -- The loops of `reader::to_record` and `writer::to_fields`: between a record and the list of its indices by field.
 -- Assumes nothing.
-use mathlib.Core.Path.{_≡_, _∙_, sym, refl}
-use mathlib.Core.List.{List}
+use mathlib.Core.Path.{_≡_, _∙_, sym, refl, ap}
+use mathlib.Core.List.{List, _∷_}
 use Prim.Native.Nat.{ℕ, zero, suc, _+_, _<_, _≤_}
 use native.Mathlib.Omega.{arith}
+use native.Mathlib.Numerals.{add-one}
 use borrow.Author.Tests.{ne-eqb}
-use lib.ListN.{getD, set, replicate}
-use Rattle.laws.proofs.Filled.{Filled, filled-fewer, filled-more, filled-done}
-use Rattle.record.specs.Fields.{indexOf}
+use lib.ListN.{length, getD, set, replicate}
+use Rattle.laws.proofs.Filled.{Filled, filled-done, Copied, copied-more, copied-all}
+use Rattle.laws.proofs.Tabulate.{tabulate-is}
+use Rattle.record.specs.Fields.{indexOf, indicesOf}
 use Rattle.record.specs.declared.Record.{Record}
-use Rattle.record.proofs.Laws.{index-parameter, index-subframe}
+use Rattle.record.proofs.Laws.{indices-long, index-listed}
 use Rattle.frame.specs.Frame.{withParity}
 use Rattle.frame.specs.Steps.{recordBy, fieldsOf}
 
@@ -32,47 +34,32 @@ module _ (v : List ℕ) where
         sy = getD v 28 0;
       }
 
--- the first i of the 29 hold the indices of the record r, the parity bits 0
-module _ (r : Record) where
-  abbrev pub Laid : ℕ → List ℕ → Type 0
-  Laid i v = Filled 0 (withParity r 0) 29 i v
+-- a record's indices by field are the parity bits, 0, and the list of them all
+fields-listed : (r : Record) → 0 ∷ indicesOf r ≡ fieldsOf r
+unfolding fieldsOf
+fields-listed r = sym (tabulate-is (withParity r 0) 0 (0 ∷ indicesOf r) 29 (ap suc (indices-long r)) here)
+  where
+    here : (k : ℕ) → k < 29 → withParity r 0 k ≡ getD (0 ∷ indicesOf r) k 0
+    here zero h = refl
+    here (suc k) h =
+        rw (ne-eqb (suc k) 0 (λ e. omega arith)) (ap (indexOf r) (sym (add-one k)) ∙ sym (index-listed r k (omega arith)))
 
-  -- a field's index is what is laid there
-  field : (f : ℕ) → 1 ≤ f → withParity r 0 f ≡ indexOf r f
-  field f a = rw (ne-eqb f 0 (λ e. omega arith))
-
+module _ (r : Record) {l : List ℕ} (is : l ≡ indicesOf r) where
   -- the parity bits are 0 to begin with
-  pub laid-none : Laid 1 (replicate 29 0)
-  laid-none = record { long = refl; upto = omega arith; here = first }
+  pub laid-none : Copied 0 (0 ∷ l) 1 (replicate 29 0)
+  laid-none = record { long = sym (ap suc (ap length is ∙ indices-long r)); upto = omega arith; here = first }
     where
-      first : (k : ℕ) → k < 1 → getD (replicate 29 0) k 0 ≡ withParity r 0 k
+      first : (k : ℕ) → k < 1 → getD (replicate 29 0) k 0 ≡ getD (0 ∷ l) k 0
       first zero h = refl
       first (suc k) h = absurd (omega arith)
 
-  -- one parameter more
-  pub laid-lsp : {k : ℕ} {v : List ℕ} → Laid (k + 1) v → k < 10 → Laid (k + 1 + 1) (set v (k + 1) (getD (r .lsp) k 0))
-  laid-lsp {k} {v} p h =
-      filled-more 0 (withParity r 0) 29 (k + 1) v _ p (omega arith)
-      (sym (field (k + 1) (omega arith) ∙ index-parameter r k h))
+  -- after the last turn all are laid
+  pub laid-whole : {k : ℕ} {v : List ℕ} → Copied 0 (0 ∷ l) (k + 1) v → 28 ≤ k → v ≡ fieldsOf r
+  laid-whole {k} {v} p h =
+      let long : length l ≡ 28 = ap length is ∙ indices-long r in
+      copied-all 0 (0 ∷ l) p (omega arith) ∙ ap (λ (x : List ℕ). 0 ∷ x) is ∙ fields-listed r
 
-  -- where the parameters end the subframe indices begin
-  pub laid-parameters : {k : ℕ} {v : List ℕ} → Laid (k + 1) v → 10 ≤ k → Laid 11 v
-  laid-parameters p h = filled-fewer 0 (withParity r 0) 29 11 p (omega arith)
-
-  -- one subframe index more
-  pub laid-subframe : {n : ℕ} {v : List ℕ} → Laid (n + 11) v → n < 16
-      → Laid (n + 1 + 11) (set v (n + 11) (getD (r .subframes) n 0))
-  laid-subframe {n} {v} p h =
-      filled-fewer 0 (withParity r 0) 29 (n + 1 + 11)
-      (filled-more 0 (withParity r 0) 29 (n + 11) v _ p (omega arith) (sym (field (n + 11) (omega arith)
-      ∙ index-subframe r n h)))
-      (omega arith)
-
-  -- SP and SY, and that is all
-  pub laid-whole : {n : ℕ} {v : List ℕ} → Laid (n + 11) v → 16 ≤ n → set (set v 27 (r .sp)) 28 (r .sy) ≡ fieldsOf r
-  unfolding fieldsOf
-  laid-whole {n} {v} p h =
-      filled-done 0 (withParity r 0) 29 _ (omega arith)
-      (filled-more 0 (withParity r 0) 29 28 _ _
-      (filled-more 0 (withParity r 0) 29 27 v _ (filled-fewer 0 (withParity r 0) 29 27 p (omega arith))
-      (omega arith) refl) (omega arith) refl)
+-- one index more
+pub laid-more : (l : List ℕ) {k : ℕ} {v : List ℕ} → Copied 0 (0 ∷ l) (k + 1) v → k < length l
+    → Copied 0 (0 ∷ l) (k + 1 + 1) (set v (k + 1) (getD l k 0))
+laid-more l {k} p h = copied-more 0 (0 ∷ l) (getD l k 0) p (omega arith) (rw (add-one k) refl)

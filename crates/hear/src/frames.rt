@@ -11,7 +11,7 @@ pub fn all(s: &[u8], count: u32) -> bool {
     let mut pass = passes::start(s, State::fresh());
     let mut k = 0;
     while k < count {
-        let step = passes::next(s, pass);
+        let step = steps::next(s, pass);
         k += 1;
         if !one(k, step.hearing) {
             return false;

@@ -88,7 +88,7 @@ fn put_frames(out: &mut [u8], start: usize, s: &[u8], mut pass: Pass) -> usize
 {
     let mut end = start;
     loop {
-        let step = passes::next(s, pass);
+        let step = steps::next(s, pass);
         if step.pass.frames == pass.frames {
             return lines::put(
                 out,

@@ -10,31 +10,32 @@ use lib.ListN.{length, getD}
 use lib.Seq.{ext-getD}
 use Rattle.laws.specs.Bytes.{pairAt}
 use Rattle.laws.proofs.Tabulate.{length-tabulate, getD-tabulate}
-use Rattle.record.specs.Fields.{indexOf}
+use Rattle.record.specs.Fields.{indexOf, indicesOf}
 use Rattle.record.specs.declared.Record.{Record}
-use Rattle.record.proofs.Laws.{index-given, record-is}
-use Rattle.pairs.specs.Pairs.{recordByte, bytesOf, pairIn, recordIn}
+use Rattle.record.proofs.Laws.{index-listed, index-given, record-is}
+use Rattle.pairs.specs.Pairs.{pairByte, bytesOf, pairIn, recordIn}
 use Rattle.pairs.proofs.Pairs.{low-byte, high-byte}
 
 -- a record has 56 bytes
 pub length-bytes : (r : Record) → length (bytesOf r) ≡ 56
 unfolding bytesOf
-length-bytes r = length-tabulate (recordByte r) 56
+length-bytes r = length-tabulate (pairByte (indicesOf r)) 56
 
 -- each of them as defined
-pub byte-at : (r : Record) (i : ℕ) → i < 56 → getD (bytesOf r) i 0 ≡ recordByte r i
+pub byte-at : (r : Record) (i : ℕ) → i < 56 → getD (bytesOf r) i 0 ≡ pairByte (indicesOf r) i
 unfolding bytesOf
-byte-at r i h = getD-tabulate (recordByte r) 0 56 i h
+byte-at r i h = getD-tabulate (pairByte (indicesOf r)) 0 56 i h
 
 -- the bytes of a record hold its indices
 pub index-of-bytes : (r : Record) (f : ℕ) → 1 ≤ f → f ≤ 28 → pairIn (bytesOf r) f ≡ indexOf r f
 unfolding pairAt
 index-of-bytes r f a b =
-    let low : getD (bytesOf r) (2 * (f - 1)) 0 ≡ indexOf r (f - 1 + 1) % 256 = byte-at r (2 * (f - 1)) (omega arith)
-    ∙ low-byte r (f - 1) in
-    let high : getD (bytesOf r) (2 * (f - 1) + 1) 0 ≡ indexOf r (f - 1 + 1) / 256 = byte-at r (2 * (f - 1) + 1)
-    (omega arith) ∙ high-byte r (f - 1) in
-    let same : indexOf r (f - 1 + 1) ≡ indexOf r f = ap (indexOf r) there in
+    let low : getD (bytesOf r) (2 * (f - 1)) 0 ≡ getD (indicesOf r) (f - 1) 0 % 256 = byte-at r (2 * (f - 1))
+    (omega arith) ∙ low-byte (indicesOf r) (f - 1) in
+    let high : getD (bytesOf r) (2 * (f - 1) + 1) 0 ≡ getD (indicesOf r) (f - 1) 0 / 256 = byte-at r (2 * (f - 1) + 1)
+    (omega arith) ∙ high-byte (indicesOf r) (f - 1) in
+    let same : getD (indicesOf r) (f - 1) 0 ≡ indexOf r f = index-listed r (f - 1) (omega arith)
+    ∙ ap (indexOf r) there in
     omega (arith, low, high, same)
   where
     there : f - 1 + 1 ≡ f
@@ -58,13 +59,14 @@ bytes-of-record s long bytes =
     (λ i h. let l : i < 56 = subst (λ (n : ℕ). i < n) (length-bytes (recordIn s)) h in
     byte-at (recordIn s) i l ∙ half i l (ℕ-discrete (i % 2) 0))
   where
-    index : (i : ℕ) → i < 56 → indexOf (recordIn s) (i / 2 + 1) ≡ pairAt s (2 * (i / 2 + 1 - 1))
-    index i l = index-in-record s (i / 2 + 1) (omega arith) (omega arith)
+    index : (i : ℕ) → i < 56 → getD (indicesOf (recordIn s)) (i / 2) 0 ≡ pairAt s (2 * (i / 2 + 1 - 1))
+    index i l =
+        index-listed (recordIn s) (i / 2) (omega arith) ∙ index-in-record s (i / 2 + 1) (omega arith) (omega arith)
 
-    half : (i : ℕ) → i < 56 → Dec (i % 2 ≡ 0) → recordByte (recordIn s) i ≡ getD s i 0
+    half : (i : ℕ) → i < 56 → Dec (i % 2 ≡ 0) → pairByte (indicesOf (recordIn s)) i ≡ getD s i 0
     half i l (yes e) =
         let at : 2 * (i / 2 + 1 - 1) ≡ i = omega arith in
-        let whole : indexOf (recordIn s) (i / 2 + 1) ≡ getD s i 0 + 256 * getD s (i + 1) 0 = index i l
+        let whole : getD (indicesOf (recordIn s)) (i / 2) 0 ≡ getD s i 0 + 256 * getD s (i + 1) 0 = index i l
         ∙ ap (pairAt s) at in
         let small = bytes i l in
         rw (eq-eqb (i % 2) 0 e) (omega (arith, whole, small))
@@ -72,7 +74,7 @@ bytes-of-record s long bytes =
         let at : 2 * (i / 2 + 1 - 1) ≡ i - 1 = omega arith in
         let next : i - 1 + 1 ≡ i = omega arith in
         let high : getD s (i - 1 + 1) 0 ≡ getD s i 0 = ap (λ (k : ℕ). getD s k 0) next in
-        let whole : indexOf (recordIn s) (i / 2 + 1) ≡ getD s (i - 1) 0 + 256 * getD s (i - 1 + 1) 0 = index i l
+        let whole : getD (indicesOf (recordIn s)) (i / 2) 0 ≡ getD s (i - 1) 0 + 256 * getD s (i - 1 + 1) 0 = index i l
         ∙ ap (pairAt s) at in
         let small = bytes (i - 1) (omega arith) in
         rw (ne-eqb (i % 2) 0 e) (omega (arith, whole, small, high))

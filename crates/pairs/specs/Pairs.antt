@@ -3,10 +3,10 @@ use mathlib.Core.Bool.{true, false, cond}
 use mathlib.Core.List.{List, []}
 use Prim.Native.Nat.{ℕ, _+_, _-_, _*_, _/_, _%_}
 use lib.Dec.{eqb}
-use lib.ListN.{length, set}
+use lib.ListN.{length, getD, set}
 use Rattle.laws.specs.Bytes.{pairAt}
 use Rattle.laws.specs.Tabulate.{tabulate}
-use Rattle.record.specs.Fields.{indexOf}
+use Rattle.record.specs.Fields.{indicesOf}
 use Rattle.record.specs.declared.Record.{Record}
 use Rattle.pairs.specs.declared.Taken.{Taken}
 
@@ -14,13 +14,13 @@ use Rattle.pairs.specs.declared.Taken.{Taken}
 abbrev pub withPair : List ℕ → ℕ → ℕ → List ℕ
 withPair s i x = set (set s i (x % 256)) (i + 1) (x / 256)
 
--- byte i of a record, from 0 on: of the pair of field i / 2 + 1 the lower half first
-abbrev pub recordByte : Record → ℕ → ℕ
-recordByte r i = cond (eqb (i % 2) 0) (indexOf r (i / 2 + 1) % 256) (indexOf r (i / 2 + 1) / 256)
+-- byte i, from 0 on, of indices one after the other: of the pair of index i / 2 the lower half first
+abbrev pub pairByte : List ℕ → ℕ → ℕ
+pairByte l i = cond (eqb (i % 2) 0) (getD l (i / 2) 0 % 256) (getD l (i / 2) 0 / 256)
 
 -- the 56 bytes of a record
 unfoldable pub bytesOf : Record → List ℕ
-bytesOf r = tabulate (recordByte r) 56
+bytesOf r = tabulate (pairByte (indicesOf r)) 56
 
 -- what a buffer that held o holds when a record was put into it: one of 56 bytes the record's, any other what it held
 unfoldable pub bytesLeft : Record → List ℕ → List ℕ

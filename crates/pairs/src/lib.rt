@@ -51,20 +51,12 @@ fn put_all(r: Record, out: &mut [u8])
     requires { ⌜ length (now out) ≡ 56 ⌝ }
     ensures { λ _. ⌜ now (out .exit) ≡ bytesOf r ⌝ }
 {
-    let lsp = r.lsp;
+    let indices = r.by_field();
     let mut k = 0;
-    while k < 10 {
-        put_pair(lsp[k], out, 2 * k);
+    while k < 28 {
+        put_pair(indices[k], out, 2 * k);
         k += 1;
     }
-    let subframes = r.subframes;
-    let mut n = 0;
-    while n < 16 {
-        put_pair(subframes[n], out, 20 + 2 * n);
-        n += 1;
-    }
-    put_pair(r.sp, out, 52);
-    put_pair(r.sy, out, 54);
 }
 
 // Puts an index into two bytes of a buffer, the lower half first.

@@ -8,8 +8,6 @@ use Rattle.passes.proofs.start.Kinds as start
 use Rattle.passes.proofs.start.Reads as start-reads
 use Rattle.passes.proofs.begin.Kinds as begin
 use Rattle.passes.proofs.begin.Reads as begin-reads
-use Rattle.passes.proofs.next.Kinds as next
-use Rattle.passes.proofs.next.Reads as next-reads
 
 pub start-determined : (κs : Lfts 1) (a : Dens κs start.ps) (r₁ r₂ : resT start.r κs .Denot)
     (x₁ x₂ : AtExit (endedOf 1 start.ps start.r) κs)
@@ -20,8 +18,3 @@ pub begin-determined : (κs : Lfts 0) (a : Dens κs begin.ps) (r₁ r₂ : resT 
     (x₁ x₂ : AtExit (endedOf 0 begin.ps begin.r) κs)
     → begin-reads.Post κs a r₁ x₁ → begin-reads.Post κs a r₂ x₂ → r₁ ≡ r₂
 begin-determined κs a r₁ r₂ x₁ x₂ p q = p ∙ sym q
-
-pub next-determined : (κs : Lfts 1) (a : Dens κs next.ps) (r₁ r₂ : resT next.r κs .Denot)
-    (x₁ x₂ : AtExit (endedOf 1 next.ps next.r) κs)
-    → next-reads.Post κs a r₁ x₁ → next-reads.Post κs a r₂ x₂ → r₁ ≡ r₂
-next-determined κs a r₁ r₂ x₁ x₂ p q = p ∙ sym q

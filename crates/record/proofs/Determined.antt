@@ -6,6 +6,13 @@ use denote.Triple.Clauses.{AtExit}
 use borrow.Fn.Kinds.{Dens, resT, endedOf}
 use Rattle.record.proofs.Record.too_large.Kinds as too-large
 use Rattle.record.proofs.Record.too_large.Reads as too-large-reads
+use Rattle.record.proofs.Record.by_field.Kinds as by-field
+use Rattle.record.proofs.Record.by_field.Reads as by-field-reads
+
+pub by-field-determined : (κs : Lfts 0) (a : Dens κs by-field.ps) (r₁ r₂ : resT by-field.r κs .Denot)
+    (x₁ x₂ : AtExit (endedOf 0 by-field.ps by-field.r) κs)
+    → by-field-reads.Post κs a r₁ x₁ → by-field-reads.Post κs a r₂ x₂ → r₁ ≡ r₂
+by-field-determined κs a r₁ r₂ x₁ x₂ p q = p ∙ sym q
 
 pub too-large-determined : (κs : Lfts 0) (a : Dens κs too-large.ps) (r₁ r₂ : resT too-large.r κs .Denot)
     (x₁ x₂ : AtExit (endedOf 0 too-large.ps too-large.r) κs)

@@ -9,13 +9,12 @@ use native.Mathlib.Nat.{add-sub-cancel}
 use lib.Dec.{leb, ltb, ltb→lt}
 use lib.ListN.{getD}
 use Rattle.laws.specs.Lowest.{lowest}
-use Rattle.laws.specs.Tabulate.{tabulate}
 use Rattle.laws.proofs.Table.{at}
-use Rattle.laws.proofs.Tabulate.{getD-tabulate}
 use Rattle.laws.proofs.Lowest.{NoneUpTo, none-yet, none-at-all, lowest-same}
 use Rattle.laws.proofs.Wide.{fits-next, wide-next}
-use Rattle.record.specs.Fields.{widths, widthOf, indexOf, over, tooLarge}
+use Rattle.record.specs.Fields.{widths, widthOf, indexOf, indicesOf, over, tooLarge}
 use Rattle.record.specs.declared.Record.{Record}
+use Rattle.record.proofs.Laws.{index-listed}
 
 -- every width is below 16, so that a shift by it leaves room
 abbrev below-16 : ℕ → ℕ → Bool
@@ -30,14 +29,13 @@ abbrev pub overBy : List ℕ → ℕ → Bool
 overBy indices i = leb (2 ^ widthOf i) (getD indices (i - 1) 0)
 
 -- the lowest such field of a record's own list is the record's
-module _ (r : Record) {indices : List ℕ} (e : indices ≡ tabulate (λ k. indexOf r (k + 1)) 28) where
+module _ (r : Record) {indices : List ℕ} (e : indices ≡ indicesOf r) where
   -- what is over in the list is over in the record
   same-over : (m : ℕ) → 1 ≤ m → m ≤ 28 → overBy indices m ≡ over r m
   same-over m a b =
       let back : m - 1 + 1 ≡ m = omega arith in
       ap (leb (2 ^ widthOf m))
-      (ap (λ (l : List ℕ). getD l (m - 1) 0) e ∙ getD-tabulate (λ k. indexOf r (k + 1)) 0 28 (m - 1) (omega arith)
-      ∙ ap (indexOf r) back)
+      (ap (λ (l : List ℕ). getD l (m - 1) 0) e ∙ index-listed r (m - 1) (omega arith) ∙ ap (indexOf r) back)
 
   -- so the lowest of the list is the lowest of the record
   pub as-record : {n : ℕ} → n ≡ lowest (overBy indices) 28 → n ≡ tooLarge r

@@ -9,10 +9,10 @@ use native.Mathlib.Nat.{add-sub-cancel}
 use native.Mathlib.Decide.{ℕ-discrete, decLe}
 use lib.ListN.{length, getD}
 use Rattle.laws.specs.Tabulate.{tabulate}
-use Rattle.laws.proofs.Tabulate.{getD-tabulate, tabulate-is}
+use Rattle.laws.proofs.Tabulate.{length-tabulate, getD-tabulate, tabulate-is}
 use borrow.Author.Tests.{leb-true, leb-false, le-leb, lt-leb}
 use Rattle.laws.proofs.Lowest.{lowest-zero, lowest-found, lowest-none, lowest-at}
-use Rattle.record.specs.Fields.{over, tooLarge, indexOf, widthOf}
+use Rattle.record.specs.Fields.{over, tooLarge, indexOf, indicesOf, widthOf}
 use Rattle.record.specs.declared.Record.{Record}
 
 module _ (r : Record) where
@@ -58,6 +58,16 @@ module _ (r : Record) where
   index-subframe k h =
       rw (lt-leb (k + 11) 10 (omega arith), le-leb (k + 11) 26 (omega arith))
       (ap (λ (n : ℕ). getD (r .subframes) n 0) (add-sub-cancel k 11))
+
+  -- there are 28 indices
+  pub indices-long : length (indicesOf r) ≡ 28
+  unfolding indicesOf
+  indices-long = length-tabulate (λ k. indexOf r (k + 1)) 28
+
+  -- place k of the list of them all is field k + 1
+  pub index-listed : (k : ℕ) → k < 28 → getD (indicesOf r) k 0 ≡ indexOf r (k + 1)
+  unfolding indicesOf
+  index-listed k h = getD-tabulate (λ k. indexOf r (k + 1)) 0 28 k h
 
 -- a record whose field f holds v f
 abbrev pub given : (ℕ → ℕ) → Record

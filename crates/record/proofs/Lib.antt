@@ -1,3 +1,4 @@
+pub mod Listed
 pub mod Fields
 pub mod Laws
 pub mod Determined

@@ -2,9 +2,7 @@
 // Fields 1 to 10 are the ten parameters, 11 to 26 the sixteen subframe indices (PD, PG, CI, CG of subframes 1 to 4),
 // 27 the expansion bit SP, 28 the synchronization bit SY.
 ghost use mathlib.Core.Path.{_≡_};
-ghost use Prim.Native.Nat.{_+_};
-ghost use Rattle.laws.specs.Tabulate.{tabulate};
-ghost use Rattle.record.specs.Fields.{indexOf, tooLarge};
+ghost use Rattle.record.specs.Fields.{indicesOf, tooLarge};
 
 // All fields are 16 bits, so that an index too large for its field is still there to be reported.
 pub struct Record {
@@ -29,11 +27,33 @@ impl Record {
         1, 1,
     ];
 
+    // The index in each field, field 1 first.
+    pub fn by_field(self) -> [u16; 28]
+        ensures { λ f. ⌜ f ≡ indicesOf self ⌝ }
+    {
+        let mut indices = [0u16; 28];
+        let lsp = self.lsp;
+        let mut k = 0;
+        while k < 10 {
+            indices[k] = lsp[k];
+            k += 1;
+        }
+        let subframes = self.subframes;
+        let mut n = 0;
+        while n < 16 {
+            indices[n + 10] = subframes[n];
+            n += 1;
+        }
+        indices[26] = self.sp;
+        indices[27] = self.sy;
+        indices
+    }
+
     // The lowest field whose index is too large for it, or 0.
     pub fn too_large(self) -> usize
         ensures { λ r. ⌜ r ≡ tooLarge self ⌝ }
     {
-        let indices = by_field(self);
+        let indices = self.by_field();
         let widths = Self::WIDTHS;
         let mut i = 0;
         while i < Self::FIELDS {
@@ -44,21 +64,4 @@ impl Record {
         }
         0
     }
-}
-
-// The index in each field, field 1 first.
-#[rattlefmt::skip]
-fn by_field(r: Record) -> [u16; 28]
-    ensures { λ f. ⌜ f ≡ tabulate (λ k. indexOf r (k + 1)) 28 ⌝ }
-{
-    let l = r.lsp;
-    let s = r.subframes;
-    [
-        l[0], l[1], l[2], l[3], l[4], l[5], l[6], l[7], l[8], l[9],
-        s[0], s[1], s[2], s[3],
-        s[4], s[5], s[6], s[7],
-        s[8], s[9], s[10], s[11],
-        s[12], s[13], s[14], s[15],
-        r.sp, r.sy,
-    ]
 }

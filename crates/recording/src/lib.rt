@@ -65,7 +65,7 @@ fn pass_after(s: &[u8], k: usize, mut pass: Pass) -> Pass
 {
     let mut ahead = k;
     while 0 < ahead {
-        let step = passes::next(s, pass);
+        let step = steps::next(s, pass);
         if step.pass.frames == pass.frames {
             return pass;
         }
@@ -91,6 +91,6 @@ fn heard_after(s: &[u8], before: usize) -> Hearing
     ensures { λ r. ⌜ r ≡ frameHeard freshState (framesOf (now (s .entry))) (suc before) ⌝ }
 {
     let start = passes::start(s, State::fresh());
-    let step = passes::next(s, pass_after(s, before, start));
+    let step = steps::next(s, pass_after(s, before, start));
     step.hearing
 }

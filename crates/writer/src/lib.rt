@@ -52,21 +52,13 @@ fn lay(r: Record, frame: &mut [u8])
 fn to_fields(r: Record) -> [u16; 29]
     ensures { λ v. ⌜ v ≡ fieldsOf r ⌝ }
 {
+    let indices = r.by_field();
     let mut fields = [0u16; 29];
-    let lsp = r.lsp;
     let mut k = 0;
-    while k < 10 {
-        fields[k + 1] = lsp[k];
+    while k < 28 {
+        fields[k + 1] = indices[k];
         k += 1;
     }
-    let subframes = r.subframes;
-    let mut n = 0;
-    while n < 16 {
-        fields[n + 11] = subframes[n];
-        n += 1;
-    }
-    fields[27] = r.sp;
-    fields[28] = r.sy;
     fields
 }
 

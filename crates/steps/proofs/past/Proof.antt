@@ -1,8 +1,8 @@
 use borrow.Author.Needs.{needs}
 use native.Mathlib.Omega.{arith}
 use Rattle.passes.proofs.Passes.{past-frame}
-use Rattle.passes.proofs.Pass.past.Statement.{statement}
-use Rattle.passes.proofs.Pass.past.Tie as tie
+use Rattle.steps.proofs.past.Statement.{statement}
+use Rattle.steps.proofs.past.Tie as tie
 
 add-frames : tie.Need-add-frames
 add-frames c = omega arith
@@ -11,7 +11,7 @@ returns : tie.Need-returns
 returns c =
     let n = c .before .before in
     let s = n .before .before in
-    past-frame (s .args .self) (s .args .hearing) _ _ (n .correction-number .ensures) (c .before .with .ensures)
+    past-frame (s .args .pass) (s .args .hearing) _ _ (n .correction-number .ensures) (c .before .counted .ensures)
 
 pub past-spec : {M : Type 1} → statement M
 past-spec = tie.close (tie.spec add-frames (λ c κs. tt) (search needs) returns)

@@ -1,6 +1,6 @@
 use Rattle.passes.proofs.Counting.{repair-none, repair-one}
-use Rattle.passes.proofs.repair_by.Statement.{statement}
-use Rattle.passes.proofs.repair_by.Tie as tie
+use Rattle.steps.proofs.repair_by.Statement.{statement}
+use Rattle.steps.proofs.repair_by.Tie as tie
 
 returns : tie.Need-returns
 returns c = repair-none _ (c .if1 .taken)

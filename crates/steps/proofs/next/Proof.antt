@@ -1,8 +1,8 @@
 use borrow.Author.Needs.{needs}
 use Rattle.passes.proofs.Passes.{next-by}
 use mathlib.Core.Path.{_∙_, sym}
-use Rattle.passes.proofs.next.Statement.{statement}
-use Rattle.passes.proofs.next.Tie as tie
+use Rattle.steps.proofs.next.Statement.{statement}
+use Rattle.steps.proofs.next.Tie as tie
 
 returns : tie.Need-returns
 returns c =

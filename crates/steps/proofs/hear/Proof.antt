@@ -1,9 +1,9 @@
 use native.Mathlib.Omega.{arith}
 use Rattle.blocks.proofs.Frames.{found-within}
 use Rattle.passes.proofs.Hearings.{heard-frame}
 use Rattle.passes.proofs.Passes.{ahead-is, went-past}
-use Rattle.passes.proofs.Pass.hear.Statement.{statement}
-use Rattle.passes.proofs.Pass.hear.Tie as tie
+use Rattle.steps.proofs.hear.Statement.{statement}
+use Rattle.steps.proofs.hear.Tie as tie
 
 add-end : tie.Need-add-end
 add-end c = let a = ahead-is _ _ _ _ (c .before .pre) in omega (arith, found-within _ _ _ _ _ (a .found) .fits)
@@ -20,7 +20,7 @@ returns : tie.Need-returns
 returns c =
     let v = c .before in
     let r = v .before in
-    let p = r .before .before .before .args .self in
+    let p = r .before .before .before .args .pass in
     went-past _ p _ _ (heard-frame (p .state) _ (r .read .ensures) (v .values-of .ensures)) (c .past .ensures)
 
 pub hear-spec : {M : Type 1} → statement M

@@ -1,7 +1,7 @@
 use native.Mathlib.Omega.{arith}
 use Rattle.passes.proofs.Counting.{break-none, break-one}
-use Rattle.passes.proofs.break_by.Statement.{statement}
-use Rattle.passes.proofs.break_by.Tie as tie
+use Rattle.steps.proofs.break_by.Statement.{statement}
+use Rattle.steps.proofs.break_by.Tie as tie
 
 returns : tie.Need-returns
 returns c = break-none _ _ (c .if1 .taken)

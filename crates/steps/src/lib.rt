@@ -1,0 +1,117 @@
+// A step of a pass: the next frame is heard with the state so far and counted, and the pass goes past it.
+use blocks::Found;
+use passes::Counts;
+use passes::Hearing;
+use passes::Pass;
+use passes::Step;
+use values::Values;
+ghost use mathlib.Core.Path.{_≡_};
+ghost use Prim.Native.Nat.{_≤_};
+ghost use Rattle.blocks.specs.Walk.{longest};
+ghost use Rattle.passes.specs.Counted.{repairOf, breakOf, countingOf};
+ghost use Rattle.passes.specs.Pass.{aheadOf, pastFrame, stepBy, nextOf};
+ghost use Rattle.blocks.specs.declared.Found.the-variants.{At, Nothing};
+
+// The next frame of any pass through any bytes.
+pub fn next(s: &[u8], pass: Pass) -> Step
+    ensures { λ r. ⌜ r ≡ nextOf (now (s .entry)) pass ⌝ }
+{
+    match ahead(pass, s) {
+        Found::Nothing => stay(pass, s),
+        Found::At(first, rest) => hear(pass, s, first, rest),
+    }
+}
+
+// Where the next frame stands. A pass that was not begun here is at its end.
+fn ahead(pass: Pass, s: &[u8]) -> Found
+    ensures { λ r. ⌜ r ≡ aheadOf (now (s .entry)) pass ⌝ }
+{
+    let passed = pass.frames;
+    if 65536 < passed {
+        return Found::Nothing;
+    }
+    if passed < pass.counts.repaired {
+        return Found::Nothing;
+    }
+    if passed < pass.counts.breaks {
+        return Found::Nothing;
+    }
+    voices::find(s, pass.at, pass.left)
+}
+
+// At the end nothing is heard, and the pass stays where it is.
+fn stay(pass: Pass, s: &[u8]) -> Step
+    ensures { λ r. ⌜ r ≡ stepBy (now (s .entry)) pass Nothing ⌝ }
+{
+    let reading = reader::read(&s[..0]);
+    let values = Values::nothing(pass.state);
+    let hearing = Hearing { reading, values };
+    Step { hearing, pass }
+}
+
+// The frame at a place is heard, and the pass goes past it; `rest` bytes of its voice block come after it.
+fn hear(pass: Pass, s: &[u8], first: usize, rest: usize) -> Step
+    requires { ⌜ aheadOf (now s) pass ≡ At first rest ⌝ }
+    ensures { λ r. ⌜ r ≡ stepBy (now (s .entry)) pass (At first rest) ⌝ }
+{
+    let end = first + 18;
+    let reading = reader::read(&s[first..end]);
+    let values = decoder::values_of(reading.indices, pass.state);
+    let hearing = Hearing { reading, values };
+    Step {
+        hearing,
+        pass: past(pass, hearing, end, rest),
+    }
+}
+
+// The pass after a frame that was heard, at the place after it.
+fn past(pass: Pass, hearing: Hearing, end: usize, left: usize) -> Pass
+    requires { ⌜ pass .frames ≤ longest ⌝ }
+    requires { ⌜ pass .counts .repaired ≤ longest ⌝ }
+    requires { ⌜ pass .counts .breaks ≤ longest ⌝ }
+    ensures { λ r. ⌜ r ≡ pastFrame pass hearing end left ⌝ }
+{
+    let frames = pass.frames + 1;
+    let number = hearing.reading.correction_number();
+    let counts = counted(pass.counts, frames, number, hearing.reading.indices.sy);
+    let state = hearing.values.state;
+    Pass {
+        at: end,
+        left,
+        frames,
+        counts,
+        state,
+    }
+}
+
+// Counts with frame n counted too, by its correction number and its SY.
+fn counted(counts: Counts, n: u32, number: usize, sy: u16) -> Counts
+    requires { ⌜ counts .repaired ≤ longest ⌝ }
+    requires { ⌜ counts .breaks ≤ longest ⌝ }
+    ensures { λ r. ⌜ r ≡ countingOf counts n number sy ⌝ }
+{
+    let repaired = counts.repaired + repair_by(number);
+    let breaks = counts.breaks + break_by(n, sy);
+    Counts { repaired, breaks }
+}
+
+// 1 for a repaired frame, by its correction number.
+fn repair_by(number: usize) -> u32
+    ensures { λ r. ⌜ r ≡ repairOf number ⌝ }
+{
+    if number == 0 {
+        return 0;
+    }
+    1
+}
+
+// 1 for a sync break at frame n, by its SY.
+fn break_by(n: u32, sy: u16) -> u32
+    ensures { λ r. ⌜ r ≡ breakOf n sy ⌝ }
+{
+    let expected = 1 - n % 2;
+    if sy as u32 == expected {
+        return 0;
+    }
+    1
+}
