@@ -6,13 +6,6 @@ use denote.Triple.Clauses.{AtExit}
 use borrow.Fn.Kinds.{Dens, resT, endedOf}
 use Rattle.delays.proofs.base.Kinds as base
 use Rattle.delays.proofs.base.Reads as base-reads
-use Rattle.delays.proofs.meaning.Kinds as meaning
-use Rattle.delays.proofs.meaning.Reads as meaning-reads
-
-pub meaning-determined : (κs : Lfts 0) (a : Dens κs meaning.ps) (r₁ r₂ : resT meaning.r κs .Denot)
-    (x₁ x₂ : AtExit (endedOf 0 meaning.ps meaning.r) κs) → meaning-reads.Post κs a r₁ x₁ → meaning-reads.Post κs a r₂ x₂
-    → r₁ ≡ r₂
-meaning-determined κs a r₁ r₂ x₁ x₂ p q = p ∙ sym q
 
 pub base-determined : (κs : Lfts 0) (a : Dens κs base.ps) (r₁ r₂ : resT base.r κs .Denot)
     (x₁ x₂ : AtExit (endedOf 0 base.ps base.r) κs) → base-reads.Post κs a r₁ x₁ → base-reads.Post κs a r₂ x₂ → r₁ ≡ r₂

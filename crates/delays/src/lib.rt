@@ -1,14 +1,8 @@
 // The adaptive code's delays: 256 of them, known by their rank, each with its twelfths of a sample and its printed byte
 // (3.5.4), and the window of 64 ranks in which subframes 2 and 4 code theirs (3.5.5).
-// A table is taken once in a call and lent on. `coder` answers the codes of delays.
+// `coder` answers the codes of delays, `meanings` the delays of codes.
 ghost use mathlib.Core.Path.{_≡_};
-ghost use Prim.Native.Nat.{_≤_};
-ghost use Rattle.delays.specs.Table.{delays, twelfthsOf, rankOf};
-ghost use Rattle.delays.specs.Codes.{baseOf, afterOf, fourMeant, meantBy};
-ghost use Rattle.delays.specs.Steps.{delaysMeant};
-ghost use Rattle.laws.specs.Tabulate.{tabulate};
-
-mod tables;
+ghost use Rattle.delays.specs.Codes.{baseOf};
 
 // The lowest rank of the window after a rank.
 pub fn base(rank: u16) -> u16
@@ -27,69 +21,6 @@ pub fn base(rank: u16) -> u16
 pub enum Meant {
     Delays(u16, u16, u16, u16),
     TooLarge(usize),
-}
-
-// The four delays in twelfths that four codes mean, or the refusal, subframe by subframe.
-pub fn meaning(codes: [u16; 4]) -> Meant
-    ensures { λ r. ⌜ r ≡ meantBy codes ⌝ }
-{
-    four_meant(codes[0], codes[1], codes[2], codes[3])
-}
-
-// The same of the four codes one by one.
-fn four_meant(first: u16, second: u16, third: u16, fourth: u16) -> Meant
-    ensures { λ r. ⌜ r ≡ fourMeant first second third fourth ⌝ }
-{
-    if 255 < first {
-        return Meant::TooLarge(1);
-    }
-    if 63 < second {
-        return Meant::TooLarge(2);
-    }
-    if 255 < third {
-        return Meant::TooLarge(3);
-    }
-    if 63 < fourth {
-        return Meant::TooLarge(4);
-    }
-    delays_meant(first, second, third, fourth)
-}
-
-// The four delays that codes within their bits mean.
-fn delays_meant(first: u16, second: u16, third: u16, fourth: u16) -> Meant
-    requires { ⌜ (first ≤ 255) × (second ≤ 63) ⌝ }
-    requires { ⌜ (third ≤ 255) × (fourth ≤ 63) ⌝ }
-    ensures { λ r. ⌜ r ≡ delaysMeant first second third fourth ⌝ }
-{
-    let ranks = &tables::RANKS;
-    let table = &tables::TWELFTHS;
-    Meant::Delays(
-        delay_of(ranks, table, first),
-        delay_after(ranks, table, first, second),
-        delay_of(ranks, table, third),
-        delay_after(ranks, table, third, fourth),
-    )
-}
-
-// The delay in twelfths that a code of subframe 1 or 3 means.
-fn delay_of(ranks: &[u8; 256], table: &[u16; 256], code: u16) -> u16
-    requires { ⌜ (now ranks ≡ tabulate rankOf 256) × (now table ≡ delays) ⌝ }
-    requires { ⌜ code ≤ 255 ⌝ }
-    ensures { λ r. ⌜ r ≡ twelfthsOf (rankOf code) ⌝ }
-{
-    let rank = ranks[code as usize];
-    table[rank as usize]
-}
-
-// The delay in twelfths that a code of subframe 2 or 4 means after the code before it.
-fn delay_after(ranks: &[u8; 256], table: &[u16; 256], code: u16, step: u16) -> u16
-    requires { ⌜ (now ranks ≡ tabulate rankOf 256) × (now table ≡ delays) ⌝ }
-    requires { ⌜ (code ≤ 255) × (step ≤ 63) ⌝ }
-    ensures { λ r. ⌜ r ≡ twelfthsOf (afterOf (rankOf code) step) ⌝ }
-{
-    let rank = ranks[code as usize];
-    let next = base(rank as u16) + step;
-    table[next as usize]
 }
 
 // The codes of four delays, or the first refusal, with its subframe.

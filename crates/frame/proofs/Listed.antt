@@ -1,4 +1,4 @@
--- The loops of `reader::to_record` and `writer::to_fields`: between a record and the list of its indices by field.
+-- The loops of `reader::to_record` and `packer::to_fields`: between a record and the list of its indices by field.
 -- Assumes nothing.
 use mathlib.Core.Path.{_≡_, _∙_, sym, refl, ap}
 use mathlib.Core.List.{List, _∷_}

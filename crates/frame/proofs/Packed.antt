@@ -1,4 +1,4 @@
--- The loops of `writer::byte_at` and `writer::lay`: eight bits shifted in one after the other, and eighteen bytes.
+-- The loops of `packer::byte_at` and `packer::frame_of`: eight bits shifted in one after the other, and eighteen bytes.
 -- Assumes nothing.
 use mathlib.Core.Path.{_≡_, _∙_, sym, refl, ap, subst}
 use mathlib.Core.List.{List}

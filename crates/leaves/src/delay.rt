@@ -12,7 +12,7 @@ pub fn meant(case: &[u8]) -> u64 {
         case::short(case, 2),
         case::short(case, 3),
     ];
-    match delays::meaning(codes) {
+    match meanings::meaning(codes) {
         Meant::Delays(a, b, c, d) => number::packed(a, b, c, d),
         Meant::TooLarge(subframe) => number::refused(2, (subframe % 65536) as u16),
     }

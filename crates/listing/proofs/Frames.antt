@@ -27,10 +27,10 @@ pub record Listing (before : State) (s o : List ℕ) (start : ℕ) (o′ : List 
   pub passing : Passing before s p
   pub put : Put o start (linesTo before (framesOf s) (p .frames)) end o′
 
--- the return of `said`
-pub said-of : (n : ℕ) (h : Hearing) {refusal correction : ℕ} → refusal ≡ values.refusalOf (h .values .outcome)
-    → correction ≡ correctionNumber (h .reading)
-    → record {
+-- what is said of frame n by the two numbers that were asked for
+abbrev saidBy : ℕ → Hearing → ℕ → ℕ → Said
+saidBy n h correction refusal =
+    record {
       number = n;
       correction = correction;
       refusal = refusal;
@@ -40,19 +40,13 @@ pub said-of : (n : ℕ) (h : Hearing) {refusal correction : ℕ} → refusal ≡
       second = getD (h .values .delays) 1 0;
       third = getD (h .values .delays) 2 0;
       fourth = getD (h .values .delays) 3 0;
-    } ≡ saidOf n h
-said-of n h p q =
-    λ i. record {
-      number = n;
-      correction = q i;
-      refusal = p i;
-      mark = h .reading .mark;
-      sy = h .reading .indices .sy;
-      first = getD (h .values .delays) 0 0;
-      second = getD (h .values .delays) 1 0;
-      third = getD (h .values .delays) 2 0;
-      fourth = getD (h .values .delays) 3 0;
     }
+
+-- the return of `said`
+pub said-of : (n : ℕ) (h : Hearing) {refusal correction : ℕ} → refusal ≡ values.refusalOf (h .values .outcome)
+    → correction ≡ correctionNumber (h .reading)
+    → saidBy n h correction refusal ≡ saidOf n h
+said-of n h p q = λ i. saidBy n h (q i) (p i)
 
 -- no line
 lines-none : (before : State) (frames : List (List ℕ)) → [] ≡ linesTo before frames 0

@@ -1,4 +1,4 @@
--- The returns of the functions of `decoder`: what was computed step by step is what the definitions say.
+-- The returns of the functions of `heard` and `decoder`: what was computed step by step is what the definitions say.
 -- Assumes nothing.
 use mathlib.Core.Path.{_≡_, _∙_, sym, ap}
 use mathlib.Core.List.{List, [], _∷_}

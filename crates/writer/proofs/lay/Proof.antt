@@ -1,68 +1,49 @@
--- `writer::lay` meets its contract: the indices by field, their parity, and a loop over the bytes. Its invariant: the
--- bytes passed hold their eight bits.
+-- `writer::lay` meets its contract: the bytes are copied one after the other.
 -- Assumes nothing.
-use mathlib.Core.Path.{_∙_, sym, ap}
+use mathlib.Core.Path.{_≡_, _∙_, sym, refl}
 use Prim.Native.Nat.{_-_}
 use native.Mathlib.Omega.{arith}
-use lib.ListN.{length, getD}
-use Rattle.laws.proofs.Filled.{Filled, filled-none, filled-more, filled-done}
-use Rattle.frame.specs.Frame.{sent, packed}
-use Rattle.frame.proofs.Answered.{parity-fits, parity-long, frame-is}
-use Rattle.frame.proofs.Laws.{packedByte}
-use Rattle.frame.proofs.Places.{length-entries}
+use borrow.Author.Needs.{needs}
+use lib.ListN.{length}
+use Rattle.laws.proofs.Filled.{Copied, copied-none, copied-more, copied-all}
 use Rattle.writer.proofs.lay.Statement.{statement}
 use Rattle.writer.proofs.lay.Tie as tie
 
 abbrev Inv-loop : tie.InvT-loop
-Inv-loop frame₀ fields table k₀ frame k = Filled 0 (packedByte (sent (λ f. getD fields f 0))) 18 k frame
+Inv-loop frame₀ bytes k₀ frame k = Copied 0 bytes k frame
 
 abbrev μ-loop : tie.MeasureT-loop
-μ-loop frame₀ fields table k₀ frame k = 18 - k
-
-cast-fields : tie.Need-cast-fields Inv-loop μ-loop
-cast-fields c = omega (arith, parity-fits _ _ _ (c .before .to-fields .ensures) (c .number-of .ensures))
+μ-loop frame₀ bytes k₀ frame k = 18 - k
 
 loop-holds : tie.Need-loop-holds Inv-loop μ-loop
-loop-holds c = filled-none 0 _ 18 _ (c .before .before .before .before .pre)
-
-slice-aggregate-byte-at : tie.Need-slice-aggregate-byte-at Inv-loop μ-loop
-slice-aggregate-byte-at c =
-    let at-number = c .before .before .before .before in
-    sym (parity-long _ _ _ (at-number .before .to-fields .ensures) (at-number .number-of .ensures))
-
-slice-aggregate-byte-at-2 : tie.Need-slice-aggregate-byte-at-2 Inv-loop μ-loop
-slice-aggregate-byte-at-2 c =
-    sym (ap length (c .before .before .before .before .table .ensures) ∙ length-entries)
-
-byte-at-requires : tie.Need-byte-at-requires Inv-loop μ-loop
-byte-at-requires c κs =
-    let at-table = c .before .before .before .before in
-    let at-number = at-table .before in (
-      parity-long _ _ _ (at-number .before .to-fields .ensures) (at-number .number-of .ensures),
-      (at-table .table .ensures, omega arith),
-    )
+loop-holds c =
+    let long : length (c .args .t1) ≡ 18 = search needs in
+    copied-none 0 (c .args .t1) _ (c .pre ∙ sym long)
 
 slice-write-frame : tie.Need-slice-write-frame Inv-loop μ-loop
-slice-write-frame c = omega (arith, c .before .before .before .before .loop .inv .long)
+slice-write-frame c =
+    let long : length (c .before .before .args .t1) ≡ 18 = search needs in
+    omega (arith, c .before .loop .inv .long, long)
 
 loop-again : tie.Need-loop-again Inv-loop μ-loop
 loop-again c =
-    filled-more 0 _ 18 _ _ _ (c .before .before .before .before .loop .inv)
-    (c .before .before .before .loop-test .taken) (c .byte-at .ensures)
-
-same-length : tie.Need-same-length Inv-loop μ-loop
-same-length c = c .before .loop .inv .long ∙ sym (c .before .before .before .before .before .before .pre)
+    let bytes = c .before .before .args .t1 in
+    let long : length bytes ≡ 18 = search needs in
+    copied-more 0 bytes _ (c .before .loop .inv) (omega arith) refl
 
 returns : tie.Need-returns Inv-loop μ-loop
-unfolding packed
 returns c =
-    let at-number = c .before .before .before in
-    filled-done 0 _ 18 _ (c .loop-test .left) (c .before .loop .inv)
-    ∙ frame-is _ _ _ (at-number .before .to-fields .ensures) (at-number .number-of .ensures)
+    let bytes = c .before .before .args .t1 in
+    let long : length bytes ≡ 18 = search needs in
+    copied-all 0 bytes (c .before .loop .inv) (omega arith)
+
+same-length : tie.Need-same-length Inv-loop μ-loop
+same-length c =
+    let long : length (c .before .before .args .t1) ≡ 18 = search needs in
+    c .before .loop .inv .long ∙ long ∙ sym (c .before .before .pre)
 
 pub lay-spec : {M : Type 1} → statement M
 lay-spec =
     tie.close
-    (tie.spec Inv-loop μ-loop (λ c κs. tt) (λ c κs. tt) cast-fields (λ c. omega arith) (λ c κs. tt) loop-holds
-    slice-aggregate-byte-at slice-aggregate-byte-at-2 byte-at-requires slice-write-frame (λ c. omega arith)
-    (λ c. omega arith) loop-again same-length returns)
+    (tie.spec Inv-loop μ-loop loop-holds (λ c. omega arith) slice-write-frame (λ c. omega arith) (λ c. omega arith)
+    loop-again same-length returns)

@@ -37,13 +37,15 @@ returns-4 c =
 returns-5 : tie.Need-returns-5
 returns-5 c =
     let at-lay = c .before .before in
-    let at-sp = at-lay .before .before in
+    let at-frame = at-lay .before .before in
+    let at-sp = at-frame .before in
     let at-mark = at-sp .before .before in
     let at-large = at-mark .before .before in
     laid _ _ _ (accepted _ _ (at-large .before .before .if1 .left) (fits at-large) (order at-mark)
-    (at-sp .if4 .left)) (at-lay .lay .ensures)
+    (at-sp .if4 .left)) (at-lay .lay .ensures ∙ at-frame .frame-of .ensures)
 
 pub write-spec : {M : Type 1} → statement M
 write-spec =
     tie.close
-    (tie.spec returns (λ c κs. tt) returns-2 (λ c κs. tt) returns-3 returns-4 (search needs) (search needs) returns-5)
+    (tie.spec returns (λ c κs. tt) returns-2 (λ c κs. tt) returns-3 returns-4 (λ c κs. tt) (search needs) (search needs)
+    returns-5)
