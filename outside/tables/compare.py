@@ -39,7 +39,7 @@ RATTLE = [
     ("crates/meanings/src/tables.rt", "TWELFTHS", "codes.twelfths"),
     ("crates/coder/src/lib.rt", "BYTES", "codes.bytes"),
     ("crates/meanings/src/tables.rt", "RANKS", "codes.ranks"),
-    ("crates/lsp/src/lib.rt", "HZ", "lsp.by-index"),
+    ("crates/hertz/src/lib.rt", "HZ", "lsp.by-index"),
     ("crates/codebook/src/lib.rt", "BOOK", "elements"),
     ("crates/frame/src/lib.rt", "TABLE", "places.entries"),
     ("crates/parity/src/lib.rt", "GUARDED", "guarded.entries"),

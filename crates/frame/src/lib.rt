@@ -1,9 +1,9 @@
-// A frame: the table of 3.8.2, the order mark of a record, and what reading and writing answer.
+// A frame: the table of 3.8.2, and what reading and writing answer.
 // `reader` and `writer` follow the table one place at a time. Between the bytes and the record the indices stand in one list by
 // field number, the four parity bits HP-0 to HP-3 under 0.
 use record::Record;
 ghost use mathlib.Core.Path.{_≡_};
-ghost use Rattle.frame.specs.Answers.{correctionNumber, recordMark};
+ghost use Rattle.frame.specs.Answers.{correctionNumber};
 ghost use Rattle.frame.specs.Steps.{entries};
 
 // Whether a frame was read. (Refusal 1: it was not eighteen bytes.)
@@ -66,16 +66,6 @@ const TABLE: [u16; 144] = [
     0x0f4, 0x003, 0x060, 0x143, 0x196, 0x0b0, // 133 to 138: PD(2)-4, HP-3, LSP 6-0, PG(3)-3, CI(4)-6, PD(1)-0
     0x023, 0x1a1, 0x152, 0x042, 0x135, 0x1c0, // 139 to 144: LSP 2-3, CG(4)-1, CI(3)-2, LSP 4-2, PD(3)-5, SY
 ];
-
-// The order mark of a record.
-pub fn mark_of(r: Record) -> usize
-    ensures { λ m. ⌜ m ≡ recordMark r ⌝ }
-{
-    let indices = r.lsp;
-    let present = lsp::in_hertz(indices);
-    let hz = present.hz;
-    lsp::order_mark(hz)
-}
 
 // The table, as the definitions have it.
 pub fn table() -> [u16; 144]

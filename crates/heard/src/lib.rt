@@ -19,7 +19,7 @@ pub fn heard_values(r: Record, before: State) -> Values
     let pg = gains_in(&gains::PG, in_subframes(r, PG));
     let delays = delays_of(r);
     let indices = r.lsp;
-    let hertz = lsp::in_hertz(indices);
+    let hertz = hertz::in_hertz(indices);
     let present = hertz.hz;
     let used = present;
     let previous = previous_of(before, used);

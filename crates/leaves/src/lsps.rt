@@ -6,7 +6,7 @@ use lsp::Verdict;
 // Ten previous LSPs in Hz and ten present indices: the mark or the refusal, and the averages of the Hz that are answered.
 pub fn number(case: &[u8]) -> u64 {
     let previous = case::ten(case, 0);
-    let present = lsp::in_hertz(case::ten(case, 10));
+    let present = hertz::in_hertz(case::ten(case, 10));
     let verdict = present.verdict;
     let hz = present.hz;
     let first = match verdict {

@@ -4,15 +4,8 @@ use mathlib.Core.Path.{_≡_, _∙_, sym}
 use contract.Lifetimes.{Lfts}
 use denote.Triple.Clauses.{AtExit}
 use borrow.Fn.Kinds.{Dens, resT, endedOf}
-use Rattle.lsp.proofs.in_hertz.Kinds as in-hertz
-use Rattle.lsp.proofs.in_hertz.Reads as in-hertz-reads
 use Rattle.lsp.proofs.order_mark.Kinds as order-mark
 use Rattle.lsp.proofs.order_mark.Reads as order-mark-reads
-
-pub in-hertz-determined : (κs : Lfts 0) (a : Dens κs in-hertz.ps) (r₁ r₂ : resT in-hertz.r κs .Denot)
-    (x₁ x₂ : AtExit (endedOf 0 in-hertz.ps in-hertz.r) κs) → in-hertz-reads.Post κs a r₁ x₁
-    → in-hertz-reads.Post κs a r₂ x₂ → r₁ ≡ r₂
-in-hertz-determined κs a r₁ r₂ x₁ x₂ p q = p ∙ sym q
 
 pub order-mark-determined : (κs : Lfts 0) (a : Dens κs order-mark.ps) (r₁ r₂ : resT order-mark.r κs .Denot)
     (x₁ x₂ : AtExit (endedOf 0 order-mark.ps order-mark.r) κs)

@@ -32,7 +32,7 @@ pub fn read(frame: &[u8]) -> Reading
     let received = gather(frame);
     let number = parity::number_of(received);
     let indices = to_record(parity::mend(received, number));
-    let mark = frame::mark_of(indices);
+    let mark = marks::mark_of(indices);
     Reading {
         verdict: Verdict::Read,
         indices,

@@ -17,7 +17,7 @@ pub fn write(r: Record, frame: &mut [u8]) -> Written
     if field != 0 {
         return Written::TooLarge(field);
     }
-    let mark = frame::mark_of(r);
+    let mark = marks::mark_of(r);
     if mark != 0 {
         return Written::Falling(mark);
     }

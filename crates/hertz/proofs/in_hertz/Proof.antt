@@ -1,11 +1,11 @@
--- `lsp::in_hertz` meets its contract: the lowest LSP that is too large decides, and the table is as printed.
+-- `hertz::in_hertz` meets its contract: the lowest LSP that is too large decides, and the table is as printed.
 -- Assumes nothing.
 use mathlib.Core.Path.{_∙_, sym}
 use Rattle.laws.specs.Tabulate.{tabulateFrom}
 use Rattle.lsp.specs.Table.{hzTable}
 use Rattle.lsp.proofs.Columns.{refused, heard}
-use Rattle.lsp.proofs.in_hertz.Statement.{statement}
-use Rattle.lsp.proofs.in_hertz.Tie as tie
+use Rattle.hertz.proofs.in_hertz.Statement.{statement}
+use Rattle.hertz.proofs.in_hertz.Tie as tie
 
 returns : tie.Need-returns
 unfolding tabulateFrom

@@ -1,10 +1,10 @@
--- `lsp::too_large` meets its contract. The loop's invariant: the bits are as printed, and the indices passed fit.
+-- `hertz::too_large` meets its contract. The loop's invariant: the bits are as printed, and the indices passed fit.
 -- Assumes nothing.
 use Prim.Native.Nat.{_-_}
 use native.Mathlib.Omega.{arith}
 use Rattle.lsp.proofs.Columns.{Fitting, none-fitting, shift-small, one-fitting, wide-found, all-fitting}
-use Rattle.lsp.proofs.too_large.Statement.{statement}
-use Rattle.lsp.proofs.too_large.Tie as tie
+use Rattle.hertz.proofs.too_large.Statement.{statement}
+use Rattle.hertz.proofs.too_large.Tie as tie
 
 abbrev Inv-loop : tie.InvT-loop
 Inv-loop indices bits i₀ i = Fitting bits indices i

@@ -1,12 +1,12 @@
--- `frame::mark_of` meets its contract.
+-- `marks::mark_of` meets its contract.
 -- Assumes nothing.
 use mathlib.Core.Path.{_∙_, ap}
 use native.Mathlib.Omega.{arith}
 use Rattle.lsp.specs.Order.{markOf}
 use Rattle.lsp.specs.declared.Hertz.{Hertz}
 use Rattle.frame.specs.Answers.{recordMark}
-use Rattle.frame.proofs.mark_of.Statement.{statement}
-use Rattle.frame.proofs.mark_of.Tie as tie
+use Rattle.marks.proofs.mark_of.Statement.{statement}
+use Rattle.marks.proofs.mark_of.Tie as tie
 
 returns : tie.Need-returns
 unfolding recordMark

@@ -1,14 +1,14 @@
--- `lsp::looked_up` meets its contract. The loop's invariant: the places passed hold Hz.
+-- `hertz::looked_up` meets its contract. The loop's invariant: the places passed hold Hz.
 -- Assumes nothing.
 use mathlib.Core.Path.{refl}
 use Prim.Native.Nat.{_-_, _<_}
 use native.Mathlib.Omega.{arith}
 use lib.ListN.{getD}
 use Rattle.laws.proofs.Filled.{Filled, filled-none, filled-done}
 use Rattle.lsp.specs.Table.{hzAt}
 use Rattle.lsp.proofs.Columns.{row-small, one-looked}
-use Rattle.lsp.proofs.looked_up.Statement.{statement}
-use Rattle.lsp.proofs.looked_up.Tie as tie
+use Rattle.hertz.proofs.looked_up.Statement.{statement}
+use Rattle.hertz.proofs.looked_up.Tie as tie
 
 abbrev Inv-loop : tie.InvT-loop
 Inv-loop table indices hz₀ i₀ hz i = Filled 0 (hzAt indices) 10 i hz
