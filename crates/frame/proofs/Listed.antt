@@ -42,7 +42,8 @@ fields-listed r = sym (tabulate-is (withParity r 0) 0 (0 ∷ indicesOf r) 29 (ap
     here : (k : ℕ) → k < 29 → withParity r 0 k ≡ getD (0 ∷ indicesOf r) k 0
     here zero h = refl
     here (suc k) h =
-        rw (ne-eqb (suc k) 0 (λ e. omega arith)) (ap (indexOf r) (sym (add-one k)) ∙ sym (index-listed r k (omega arith)))
+        rw (ne-eqb (suc k) 0 (λ e. omega arith))
+        (ap (indexOf r) (sym (add-one k)) ∙ sym (index-listed r k (omega arith)))
 
 module _ (r : Record) {l : List ℕ} (is : l ≡ indicesOf r) where
   -- the parity bits are 0 to begin with

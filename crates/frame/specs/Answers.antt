@@ -3,9 +3,8 @@ use mathlib.Core.List.{List, [], _∷_}
 use Prim.Native.Nat.{ℕ}
 use lib.Dec.{eqb}
 use lib.ListN.{length}
-use Rattle.laws.specs.Tabulate.{tabulate}
 use Rattle.laws.specs.Unless.{unless}
-use Rattle.record.specs.Fields.{tooLarge}
+use Rattle.record.specs.Fields.{recordWith, tooLarge}
 use Rattle.record.specs.declared.Record.{Record}
 use Rattle.lsp.specs.Table.{hertzOf}
 use Rattle.lsp.specs.Order.{markOf}
@@ -23,7 +22,7 @@ recordMark r = markOf (hertzOf (r .lsp) .hz)
 
 -- a record of nothing but 0
 abbrev pub noRecord : Record
-noRecord = record { lsp = tabulate (λ k. 0) 10; subframes = tabulate (λ k. 0) 16; sp = 0; sy = 0 }
+noRecord = recordWith (λ i. 0)
 
 -- what is read in the bits b of a frame: the record after correction, the correction number, the order mark
 abbrev pub readIn : (ℕ → ℕ) → Reading

@@ -8,7 +8,7 @@ use Rattle.laws.specs.Lowest.{lowest}
 use Rattle.laws.specs.Table.{both}
 use Rattle.laws.specs.Total.{total, bit, fromBits}
 use Rattle.laws.specs.Tabulate.{tabulate}
-use Rattle.record.specs.Fields.{indexOf}
+use Rattle.record.specs.Fields.{indexOf, recordWith}
 use Rattle.record.specs.declared.Record.{Record}
 use Rattle.frame.specs.Places.{fieldAt, bitIn}
 use Rattle.frame.specs.Parity.{number}
@@ -46,13 +46,7 @@ indexIn b f = total (share b f) 144
 
 -- the record in the bits b
 abbrev pub recordOf : (ℕ → ℕ) → Record
-recordOf b =
-    record {
-      lsp = tabulate (λ k. indexIn b (k + 1)) 10;
-      subframes = tabulate (λ k. indexIn b (k + 11)) 16;
-      sp = indexIn b 27;
-      sy = indexIn b 28;
-    }
+recordOf b = recordWith (indexIn b)
 
 -- the bits sent for the indices v, field by field, the parity bits under 0
 unfoldable pub sent : (ℕ → ℕ) → ℕ → ℕ

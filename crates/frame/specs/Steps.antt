@@ -7,7 +7,7 @@ use lib.Dec.{eqb, ltb}
 use lib.ListN.{getD, set}
 use Rattle.laws.specs.Total.{total, bit}
 use Rattle.laws.specs.Tabulate.{tabulate}
-use Rattle.record.specs.Fields.{indexOf}
+use Rattle.record.specs.Fields.{indexOf, recordWith}
 use Rattle.record.specs.declared.Record.{Record}
 use Rattle.frame.specs.Places.{Name, places, fieldOf, bitOf}
 use Rattle.frame.specs.Parity.{guarded, numberOf}
@@ -48,13 +48,7 @@ mendedFields v n = cond (eqb n 0) v (cond (ltb n 16) (inverting v (getD guardedE
 
 -- the record of a list of indices by field, and back, the parity bits 0
 abbrev pub recordBy : List ℕ → Record
-recordBy v =
-    record {
-      lsp = tabulate (λ k. getD v (k + 1) 0) 10;
-      subframes = tabulate (λ k. getD v (k + 11) 0) 16;
-      sp = getD v 27 0;
-      sy = getD v 28 0;
-    }
+recordBy v = recordWith (λ f. getD v f 0)
 
 unfoldable pub fieldsOf : Record → List ℕ
 fieldsOf r = tabulate (λ f. cond (eqb f 0) 0 (indexOf r f)) 29

@@ -36,8 +36,8 @@ fields (n ∷ ns) = ascii " " ++ decimal n ++ fields ns
 -- after the correction number: order mark, SY, four delays in twelfths; or the refusal, where there is one (not 0)
 unfoldable pub restOf : Said → List ℕ
 restOf x =
-    cond (eqb (x .refusal) 0)
-    (fields (x .mark ∷ x .sy ∷ x .first ∷ x .second ∷ x .third ∷ x .fourth ∷ [])) (told (ascii " refused ") (x .refusal))
+    cond (eqb (x .refusal) 0) (fields (x .mark ∷ x .sy ∷ x .first ∷ x .second ∷ x .third ∷ x .fourth ∷ []))
+    (told (ascii " refused ") (x .refusal))
 
 -- a line for each frame: frame number, correction number, and the rest
 unfoldable pub frameLine : Said → List ℕ

@@ -69,7 +69,8 @@ listing-start before s o start {p} is h =
       passing = on-its-way before s is;
       put =
           put-as o start [] (linesTo before (framesOf s) (p .frames))
-          (lines-none before (framesOf s) ∙ ap (linesTo before (framesOf s)) (sym z)) (put-nothing o start (omega arith));
+          (lines-none before (framesOf s) ∙ ap (linesTo before (framesOf s)) (sym z))
+          (put-nothing o start (omega arith));
     }
 
 module _ {before : State} {s o : List ℕ} {start : ℕ} {o′ : List ℕ} {end : ℕ} {p : Pass}

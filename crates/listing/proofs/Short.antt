@@ -115,7 +115,8 @@ module _ (before : State) (f : List ℕ) where
       → length (fields (getD (valuesOf (readingOf f .indices) before .delays) k 0 ∷ ns)) ≤ 5 + length (fields ns)
   delay-short k h ns =
       let m = delays-most (readingOf f .indices) before k h in
-      let l = field-short (getD (valuesOf (readingOf f .indices) before .delays) k 0) 4 ns (omega arith) (omega arith) in
+      let l = field-short (getD (valuesOf (readingOf f .indices) before .delays) k 0) 4 ns (omega arith)
+      (omega arith) in
       omega arith
 
   numbers-short : let d = valuesOf (readingOf f .indices) before .delays in

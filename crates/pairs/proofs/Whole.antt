@@ -8,7 +8,6 @@ use native.Mathlib.Decide.{ℕ-discrete}
 use borrow.Author.Tests.{eq-eqb, ne-eqb, eqb-true, eqb-false}
 use lib.Dec.{eqb}
 use lib.ListN.{length, replicate}
-use Rattle.laws.specs.Bytes.{pairAt}
 use Rattle.laws.specs.Tabulate.{tabulateFrom}
 use Rattle.record.specs.declared.Record.{Record}
 use Rattle.pairs.specs.Pairs.{bytesOf, bytesLeft, recordIn, takenOf}
@@ -50,7 +49,7 @@ module _ (s : List ℕ) where
         whole = false;
         indices = record { lsp = replicate 10 0; subframes = replicate 16 0; sp = 0; sy = 0 };
       } ≡ takenOf s
-  unfolding takenOf recordIn pairAt tabulateFrom
+  unfolding takenOf tabulateFrom
   not-taken w = rw (ne-eqb (length s) 56 w) refl
 
   pub all-taken : length s ≡ 56 → {r : Record} → r ≡ recordIn s → record { whole = true; indices = r } ≡ takenOf s

@@ -1,12 +1,12 @@
 -- The C record (document 01, "What the work covers"): 28 byte pairs, 16 bits each, little-endian, in field order.
 use mathlib.Core.Bool.{true, false, cond}
-use mathlib.Core.List.{List, []}
+use mathlib.Core.List.{List}
 use Prim.Native.Nat.{ℕ, _+_, _-_, _*_, _/_, _%_}
 use lib.Dec.{eqb}
 use lib.ListN.{length, getD, set}
 use Rattle.laws.specs.Bytes.{pairAt}
 use Rattle.laws.specs.Tabulate.{tabulate}
-use Rattle.record.specs.Fields.{indicesOf}
+use Rattle.record.specs.Fields.{indicesOf, recordWith}
 use Rattle.record.specs.declared.Record.{Record}
 use Rattle.pairs.specs.declared.Taken.{Taken}
 
@@ -32,16 +32,10 @@ pairIn s f = pairAt s (2 * (f - 1))
 
 -- the record in 56 bytes
 unfoldable pub recordIn : List ℕ → Record
-recordIn s =
-    record {
-      lsp = tabulate (λ k. pairIn s (k + 1)) 10;
-      subframes = tabulate (λ k. pairIn s (k + 11)) 16;
-      sp = pairIn s 27;
-      sy = pairIn s 28;
-    }
+recordIn s = recordWith (pairIn s)
 
--- what is taken out of any bytes: those that are not 56 are as no bytes
+-- what is taken out of any bytes: of those that are not 56 nothing, and all indices are 0
 unfoldable pub takenOf : List ℕ → Taken
 takenOf s =
     cond (eqb (length s) 56) (record { whole = true; indices = recordIn s })
-    (record { whole = false; indices = recordIn [] })
+    (record { whole = false; indices = recordWith (λ i. 0) })

@@ -12,7 +12,7 @@ use Rattle.laws.specs.Tabulate.{tabulate}
 use Rattle.laws.proofs.Tabulate.{length-tabulate, getD-tabulate, tabulate-is}
 use borrow.Author.Tests.{leb-true, leb-false, le-leb, lt-leb}
 use Rattle.laws.proofs.Lowest.{lowest-zero, lowest-found, lowest-none, lowest-at}
-use Rattle.record.specs.Fields.{over, tooLarge, indexOf, indicesOf, widthOf}
+use Rattle.record.specs.Fields.{over, tooLarge, indexOf, indicesOf, recordWith, widthOf}
 use Rattle.record.specs.declared.Record.{Record}
 
 module _ (r : Record) where
@@ -69,35 +69,31 @@ module _ (r : Record) where
   unfolding indicesOf
   index-listed k h = getD-tabulate (λ k. indexOf r (k + 1)) 0 28 k h
 
--- a record whose field f holds v f
-abbrev pub given : (ℕ → ℕ) → Record
-given v = record { lsp = tabulate (λ k. v (k + 1)) 10; subframes = tabulate (λ k. v (k + 11)) 16; sp = v 27; sy = v 28 }
-
--- field f of it holds v f
-pub index-given : (v : ℕ → ℕ) (f : ℕ) → 1 ≤ f → f ≤ 28 → indexOf (given v) f ≡ v f
+-- field f of the record whose fields hold v holds v f
+pub index-given : (v : ℕ → ℕ) (f : ℕ) → 1 ≤ f → f ≤ 28 → indexOf (recordWith v) f ≡ v f
 index-given v f a b = parameter (decLe f 10)
   where
-    last : Dec (f ≡ 27) → 26 < f → indexOf (given v) f ≡ v f
+    last : Dec (f ≡ 27) → 26 < f → indexOf (recordWith v) f ≡ v f
     last (yes e) h = rw e
     last (no e) h = let w : f ≡ 28 = omega arith in rw w
 
-    subframe : Dec (f ≤ 26) → 10 < f → indexOf (given v) f ≡ v f
+    subframe : Dec (f ≤ 26) → 10 < f → indexOf (recordWith v) f ≡ v f
     subframe (yes q) h =
         let back : f - 11 + 11 ≡ f = omega arith in
-        ap (indexOf (given v)) (sym back) ∙ index-subframe (given v) (f - 11) (omega arith)
+        ap (indexOf (recordWith v)) (sym back) ∙ index-subframe (recordWith v) (f - 11) (omega arith)
         ∙ getD-tabulate (λ k. v (k + 11)) 0 16 (f - 11) (omega arith) ∙ ap v back
     subframe (no q) h = last (ℕ-discrete f 27) (omega arith)
 
-    parameter : Dec (f ≤ 10) → indexOf (given v) f ≡ v f
+    parameter : Dec (f ≤ 10) → indexOf (recordWith v) f ≡ v f
     parameter (yes q) =
         let back : f - 1 + 1 ≡ f = omega arith in
-        ap (indexOf (given v)) (sym back) ∙ index-parameter (given v) (f - 1) (omega arith)
+        ap (indexOf (recordWith v)) (sym back) ∙ index-parameter (recordWith v) (f - 1) (omega arith)
         ∙ getD-tabulate (λ k. v (k + 1)) 0 10 (f - 1) (omega arith) ∙ ap v back
     parameter (no q) = subframe (decLe f 26) (omega arith)
 
 -- a record is known by what stands in its fields
 pub record-is : (r : Record) (v : ℕ → ℕ) → length (r .lsp) ≡ 10 → length (r .subframes) ≡ 16
-    → ((f : ℕ) → 1 ≤ f → f ≤ 28 → v f ≡ indexOf r f) → given v ≡ r
+    → ((f : ℕ) → 1 ≤ f → f ≤ 28 → v f ≡ indexOf r f) → recordWith v ≡ r
 record-is r v ten sixteen same =
     λ i. record {
       lsp = parameters i;

@@ -28,7 +28,8 @@ module _ (r : Record) where
       → Listed (n + 1 + 10) (set v (n + 10) (getD (r .subframes) n 0))
   listed-subframe {n} {v} p h =
       listed-fewer (n + 1 + 10)
-      (filled-more 0 _ 28 (n + 10) v _ p (omega arith) (sym (ap (indexOf r) after ∙ index-subframe r n h))) (omega arith)
+      (filled-more 0 _ 28 (n + 10) v _ p (omega arith) (sym (ap (indexOf r) after ∙ index-subframe r n h)))
+      (omega arith)
     where
       after : n + 10 + 1 ≡ n + 11
       after = omega arith

@@ -29,6 +29,11 @@ indexOf r i =
     (cond (leb i 26) (getD (r .subframes) (i - 11) 0)
     (cond (eqb i 27) (r .sp) (r .sy)))
 
+-- the record whose field i holds v i
+abbrev pub recordWith : (ℕ → ℕ) → Record
+recordWith v =
+    record { lsp = tabulate (λ k. v (k + 1)) 10; subframes = tabulate (λ k. v (k + 11)) 16; sp = v 27; sy = v 28 }
+
 -- the index in each field, field 1 first
 unfoldable pub indicesOf : Record → List ℕ
 indicesOf r = tabulate (λ k. indexOf r (k + 1)) 28

@@ -9,15 +9,16 @@ put-frames-requires : tie.Need-put-frames-requires
 put-frames-requires c κs =
     let h = c .before .before .before .before .before in
     let s = h .before .before .before .before in
-    (start-walk _ (s .before .pre .0) (s .before .pre .1) (c .before .begin .ensures), put-within _ _ _ (h .put .ensures))
+    let pre = s .before .pre in
+    (start-walk _ (pre .0) (pre .1) (c .before .begin .ensures), put-within _ _ _ (h .put .ensures))
 
 returns : tie.Need-returns
 returns c =
     let p = c .before .before in
     let b = p .before .before in
     let h = b .before .before .before .before in
-    sound-put _ (h .before .before .before .before .before .args .walk) _ (b .before .fresh .ensures) (b .begin .ensures)
-    (h .put .ensures) (p .put-frames .ensures)
+    sound-put _ (h .before .before .before .before .before .args .walk) _ (b .before .fresh .ensures)
+    (b .begin .ensures) (h .put .ensures) (p .put-frames .ensures)
 
 same-length : tie.Need-same-length
 same-length c = put-length _ _ _ (returns c)

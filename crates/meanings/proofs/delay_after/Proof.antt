@@ -1,4 +1,4 @@
--- `meanings::delay_after` meets its contract: the entry is that of the rank that the code means after the one before it.
+-- `meanings::delay_after` meets its contract: the entry is that of the rank that the code means after the one before.
 -- Assumes nothing.
 use native.Mathlib.Omega.{arith}
 use Prim.Native.Nat.{_+_, _<_}

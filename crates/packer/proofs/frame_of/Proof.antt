@@ -1,5 +1,5 @@
--- `packer::frame_of` meets its contract: the indices by field, their parity, and a loop over the bytes. Its invariant: the
--- bytes passed hold their eight bits.
+-- `packer::frame_of` meets its contract: the indices by field, their parity, and a loop over the bytes. Its invariant:
+-- the bytes passed hold their eight bits.
 -- Assumes nothing.
 use mathlib.Core.Path.{_∙_, sym, refl, ap}
 use Prim.Native.Nat.{_-_}

@@ -15,8 +15,8 @@ add-breaks c =
 returns : tie.Need-returns
 returns c =
     let s = c .before .before .before .before in
-    counted (s .args .counts) (s .args .n) (s .args .number) (s .args .sy) (c .before .before .before .repair-by .ensures)
-    (c .before .break-by .ensures)
+    counted (s .args .counts) (s .args .n) (s .args .number) (s .args .sy)
+    (c .before .before .before .repair-by .ensures) (c .before .break-by .ensures)
 
 pub counted-spec : {M : Type 1} → statement M
 counted-spec = tie.close (tie.spec (search needs) add-repaired (search needs) add-breaks returns)
