@@ -1,4 +1,5 @@
--- The returns of `reader::read` and `writer::write`: what was computed step by step is what the definitions say.
+-- The returns of `reader::read`, `packer::frame_of` and `writer::write`: what was computed step by step is what the
+-- definitions say.
 -- Assumes nothing.
 use mathlib.Core.Path.{_≡_, _∙_, sym, refl, ap}
 use mathlib.Core.List.{List}

@@ -15,7 +15,7 @@ use Rattle.passes.specs.Counted.{repairOf, repairBy, syncAt, breakOf, br
 use Rattle.passes.specs.Counted.{countsTo}
 use Rattle.passes.specs.declared.Counts.{Counts}
 
--- the returns of `repair_by`: 0 where the number is 0, or else 1
+-- the returns of `steps::repair_by`: 0 where the number is 0, or else 1
 module _ (number : ℕ) where
   -- number 0 is no repair
   pub repair-none : number ≡ 0 → 0 ≡ repairOf number
@@ -33,7 +33,7 @@ sync-is n = go (ℕ-discrete (n % 2) 1)
     go (yes o) = rw (eq-eqb (n % 2) 1 o) (omega arith)
     go (no e) = rw (ne-eqb (n % 2) 1 e) (omega arith)
 
--- the returns of `break_by`: 0 where SY is the one that is expected, or else 1
+-- the returns of `steps::break_by`: 0 where SY is the one that is expected, or else 1
 module _ (n sy : ℕ) where
   -- the SY that is expected is no break
   pub break-none : sy ≡ 1 - n % 2 → 0 ≡ breakOf n sy
@@ -56,7 +56,7 @@ repair-small number = one-at-most (eqb number 0)
 pub break-small : (n sy : ℕ) → breakOf n sy ≤ 1
 break-small n sy = one-at-most (eqb sy (syncAt n))
 
--- the return of `Counts::with`
+-- the return of `steps::counted`
 pub counted : (c : Counts) (n number sy : ℕ) {more broken : ℕ} → more ≡ repairOf number → broken ≡ breakOf n sy
     → record { repaired = c .repaired + more; breaks = c .breaks + broken } ≡ countingOf c n number sy
 counted c n number sy p q = λ i. record { repaired = c .repaired + p i; breaks = c .breaks + q i }

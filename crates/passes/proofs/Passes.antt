@@ -74,7 +74,7 @@ pub start-walk : (s : List ℕ) {walk : Walk} {before : State} {p : Pass} → wa
 start-walk s {walk} {before} e ends begun =
     start-own s before refl ends (begun ∙ ap (λ (x : Walk). begunAt (x .voices) before) e)
 
--- of `Pass::ahead`: nothing for a pass that was not begun here
+-- of `steps::ahead`: nothing for a pass that was not begun here
 module _ (s : List ℕ) (p : Pass) where
   -- a pass through too many frames is at its end
   pub ahead-many : longest < p .frames → Nothing ≡ aheadOf s p
@@ -138,7 +138,7 @@ module _ (s : List ℕ) (p : Pass) where
             found = e;
           }
 
--- of `Pass::past`
+-- of `steps::past`
 pub past-frame : (p : Pass) (h : Hearing) (end left : ℕ) {number : ℕ} {c : Counts}
     → number ≡ correctionNumber (h .reading)
     → c ≡ countingOf (p .counts) (p .frames + 1) number (h .reading .indices .sy)
@@ -148,14 +148,14 @@ past-frame p h end left is e =
     let f = ap (λ (n : ℕ). countingOf (p .counts) (p .frames + 1) n (h .reading .indices .sy)) is in
     λ i. record { at = end; left = left; frames = p .frames + 1; counts = (e ∙ f) i; state = h .values .state }
 
--- of `Pass::stay`
+-- of `steps::stay`
 pub stayed : (p : Pass) {r : Reading} {v : Values} → r ≡ readingOf [] → v ≡ nothingHeard (p .state)
     → _≡_ {A = Step} (record { hearing = record { reading = r; values = v }; pass = p })
     (record { hearing = noHearing (p .state); pass = p })
 unfolding noHearing
 stayed p read valued = λ i. record { hearing = record { reading = read i; values = valued i }; pass = p }
 
--- of `Pass::hear`
+-- of `steps::hear`
 module _ (s : List ℕ) (p : Pass) where
   -- a step to a frame hears it and goes past it
   pub went-past : (first rest : ℕ) {h : Hearing} {q : Pass}

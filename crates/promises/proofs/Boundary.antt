@@ -1,4 +1,4 @@
--- The C boundary, shown by the laws of the gateway and of frames.
+-- The C boundary, shown by the laws of its bytes, of its results and of frames.
 -- Assumes nothing.
 use mathlib.Core.Path.{_≡_, _∙_, sym, refl, ap}
 use mathlib.Core.List.{List}
