@@ -33,10 +33,10 @@ pub enum Line {
 }
 
 // A line as it is to be laid: the first bytes of its form, in which each byte below 8 stands for the number at that place.
-pub struct Form {
-    pub bytes: [u8; 28],
-    pub size: usize,
-    pub numbers: [u64; 8],
+struct Form {
+    bytes: [u8; 28],
+    size: usize,
+    numbers: [u64; 8],
 }
 
 // Lays a line.
