@@ -105,7 +105,7 @@ module _ (s : List ℕ) (at : ℕ) where
 -- where it is whole: a size that is wrong for its kind, or what stands there by its kind
 module _ (s : List ℕ) (at size kind : ℕ) (sized : size ≡ wordAt s at) (kinded : kind ≡ pairAt s (at + 4))
     (fits : at + 6 + size ≤ length s) where
-  whole : blockAt s at ≡ unless (rightSize kind size) (Broken (WrongSize at)) (ofKind s at kind)
+  whole : blockAt s at ≡ unless (rightSize kind size) (Broken (WrongSize at size)) (ofKind s at kind)
   unfolding blockAt
   whole =
       rw (
@@ -117,12 +117,12 @@ module _ (s : List ℕ) (at size kind : ℕ) (sized : size ≡ wordAt s at) (kin
       )
 
   -- a size that is wrong for the kind
-  pub wrong-size : rightSize kind size ≡ false → Broken (WrongSize at) ≡ blockAt s at
+  pub wrong-size : rightSize kind size ≡ false → Broken (WrongSize at size) ≡ blockAt s at
   wrong-size r = rw (whole, r)
 
   module _ (right : rightSize kind size ≡ true) where
     by-kind : blockAt s at ≡ ofKind s at kind
-    by-kind = whole ∙ ap (λ (b : Bool). unless b (Broken (WrongSize at)) (ofKind s at kind)) right
+    by-kind = whole ∙ ap (λ (b : Bool). unless b (Broken (WrongSize at size)) (ofKind s at kind)) right
 
     -- a head
     pub head : kind ≡ 1 → (h : Heading) → h ≡ headingAt s at → Head h ≡ blockAt s at

@@ -41,12 +41,12 @@ ofKind s at kind =
     (cond (eqb kind 2) (Voice (sizeAt s at))
     (cond (eqb kind 3) (End (wordAt s (at + 6))) (Broken (UnknownKind at))))
 
--- what stands at a place: a block, or why there is none; of the refusals that one block can have by itself, 7 before
--- 8
+-- what stands at a place: a block, or why there is none; the refusals that one block can have by itself come in this
+-- order: 9, 10, 11, then 8 (document 02, K1)
 unfoldable pub blockAt : List ℕ → ℕ → Block
 blockAt s at =
     unless (ltb at (length s)) (Broken (EndMissing (length s)))
     (unless (leb (at + 6) (length s)) (Broken (HeaderCut at))
     (unless (leb (at + 6 + sizeAt s at) (length s)) (Broken (PastEnd at))
-    (unless (rightSize (kindAt s at) (sizeAt s at)) (Broken (WrongSize at))
+    (unless (rightSize (kindAt s at) (sizeAt s at)) (Broken (WrongSize at (sizeAt s at)))
     (ofKind s at (kindAt s at)))))

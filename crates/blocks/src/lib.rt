@@ -5,12 +5,12 @@ ghost use lib.ListN.{length, getD};
 ghost use Rattle.laws.specs.Bytes.{pairAt, wordAt};
 ghost use Rattle.blocks.specs.Blocks.{rightSize, headingAt, blockAt};
 
-// Why a recording is refused, and the place that is told.
+// Why a recording is refused, and what is told of it: a place, and of a payload of the wrong size that size too.
 pub enum Cause {
     TooLong,
     HeaderCut(usize),
     PastEnd(usize),
-    WrongSize(usize),
+    WrongSize(usize, u32),
     UnknownKind(usize),
     OutOfTurn(usize),
     EndMissing(usize),
@@ -18,10 +18,11 @@ pub enum Cause {
     Extra(usize),
 }
 
-// What a refusal tells.
+// What a refusal tells: nothing, a place, or the place of a block and the size of its payload.
 pub enum Told {
     Nothing,
     Place(usize),
+    PlaceAndSize(usize, u32),
 }
 
 // What a head holds.
@@ -122,15 +123,15 @@ pub fn block_at(s: &[u8], at: usize) -> Block
     if long - at < 6 {
         return Block::Broken(Cause::HeaderCut(at));
     }
-    let size = word(s, at) as usize;
-    if long - at - 6 < size {
+    let size = word(s, at);
+    if long - at - 6 < size as usize {
         return Block::Broken(Cause::PastEnd(at));
     }
     block_by_kind(s, at, size)
 }
 
 // The same where header and payload are whole, by the kind.
-fn block_by_kind(s: &[u8], at: usize, size: usize) -> Block
+fn block_by_kind(s: &[u8], at: usize, size: u32) -> Block
     requires { ⌜ size ≡ wordAt (now s) at ⌝ }
     requires { ⌜ at + 6 + size ≤ length (now s) ⌝ }
     ensures { λ r. ⌜ r ≡ blockAt (now (s .entry)) at ⌝ }
@@ -138,13 +139,13 @@ fn block_by_kind(s: &[u8], at: usize, size: usize) -> Block
     let kind_at = at + 4;
     let kind = pair(s, kind_at);
     if !right_size(kind, size) {
-        return Block::Broken(Cause::WrongSize(at));
+        return Block::Broken(Cause::WrongSize(at, size));
     }
     if kind == 1 {
         return Block::Head(heading_at(s, at));
     }
     if kind == 2 {
-        return Block::Voice(size);
+        return Block::Voice(size as usize);
     }
     if kind == 3 {
         let body = at + 6;
@@ -166,7 +167,7 @@ fn heading_at(s: &[u8], at: usize) -> Heading
 }
 
 // Whether a payload's size is right for its kind; a kind that is unknown has no wrong size.
-fn right_size(kind: u32, size: usize) -> bool
+fn right_size(kind: u32, size: u32) -> bool
     ensures { λ r. ⌜ r ≡ rightSize kind size ⌝ }
 {
     if kind == 1 {

@@ -10,8 +10,8 @@ use Rattle.blocks.specs.declared.Heading.{Heading}
 use Rattle.blocks.specs.declared.Told.{Told}
 use Rattle.text.specs.Ascii.{ascii}
 use Rattle.text.specs.Decimal.{decimal}
-use Rattle.lines.specs.Lines.{pairLine, headLine, fields, restOf, frameLine, lastLine, placeShown, refusedLine}
-use Rattle.lines.specs.Lines.{lineOf}
+use Rattle.lines.specs.Lines.{pairLine, headLine, fields, restOf, frameLine, lastLine, numbersShown}
+use Rattle.lines.specs.Lines.{refusalLine, refusedLine, lineOf}
 use Rattle.lines.specs.Forms.{filledIn, Shows}
 use Rattle.lines.specs.declared.Form.{Form}
 use Rattle.lines.specs.declared.Line.{Line}
@@ -38,17 +38,6 @@ pub last-text : (repaired breaks : ℕ) → filledIn (two repaired breaks) (asci
 unfolding filledIn lastLine pairLine
 last-text repaired breaks = simp append-assoc
 
--- the return of `refused`
-pub refused-text : (cause : Cause) {number place : ℕ} {tells : Told} → number ≡ refusalOf cause → tells ≡ toldOf cause
-    → place ≡ placeShown tells
-    → filledIn (two number place) (ascii "refused \0 at \u{1}\n") ≡ refusedLine cause
-unfolding filledIn refusedLine pairLine
-refused-text cause n t l = rw (l ∙ ap placeShown t, n) (simp append-assoc)
-
--- the returns of `place_shown`
-pub shown : (t : Told) {u : Told} {n : ℕ} → t ≡ u → n ≡ placeShown u → n ≡ placeShown t
-shown t e is = is ∙ ap placeShown (sym e)
-
 -- numbers, each after a space, and then a text
 unfoldable spaced : List ℕ → List ℕ → List ℕ
 spaced [] t = t
@@ -61,6 +50,38 @@ spaced-out [] t = refl
 spaced-out (n ∷ ns) t =
     append-assoc (ascii " " ++ decimal n) (fields ns) t
     ∙ ap (λ (l : List ℕ). ascii " " ++ (decimal n ++ l)) (spaced-out ns t)
+
+-- a refusal's line, as its numbers come after one another
+refusal-spaced : (number : ℕ) (shown : List ℕ)
+    → refusalLine number shown ≡ ascii "refused " ++ (decimal number ++ (ascii " at" ++ spaced shown (ascii "\n")))
+unfolding refusalLine
+refusal-spaced number shown =
+    append-assoc (ascii "refused " ++ decimal number ++ ascii " at") (fields shown) (ascii "\n")
+    ∙ ap (λ (l : List ℕ). (ascii "refused " ++ decimal number ++ ascii " at") ++ l) (spaced-out shown (ascii "\n"))
+    ∙ append-assoc (ascii "refused " ++ decimal number) (ascii " at") (spaced shown (ascii "\n"))
+
+-- the return of `refusal_at`
+pub place-text : (number place : ℕ) → filledIn (two number place) (ascii "refused \0 at \u{1}\n")
+    ≡ refusalLine number (place ∷ [])
+unfolding filledIn spaced
+place-text number place = sym (refusal-spaced number (place ∷ []))
+
+-- the return of `refusal_with_size`
+pub size-text : (number place size : ℕ) → filledIn (three number place size) (ascii "refused \0 at \u{1} \u{2}\n")
+    ≡ refusalLine number (place ∷ size ∷ [])
+unfolding filledIn spaced
+size-text number place size = sym (refusal-spaced number (place ∷ size ∷ []))
+
+-- the returns of `refusal`: what is told is one of its cases
+pub shows-told : (number : ℕ) (t : Told) {u : Told} (f : Form) → t ≡ u → Shows f (refusalLine number (numbersShown u))
+    → Shows f (refusalLine number (numbersShown t))
+shows-told number t f e s = (s .0, s .1 ∙ ap (λ (u : Told). refusalLine number (numbersShown u)) (sym e))
+
+-- the return of `refused`
+pub shows-refused : (cause : Cause) {number : ℕ} {t : Told} (f : Form) → number ≡ refusalOf cause → t ≡ toldOf cause
+    → Shows f (refusalLine number (numbersShown t)) → Shows f (refusedLine cause)
+unfolding refusedLine
+shows-refused cause f n t s = rw (sym n, sym t) s
 
 -- the returns of `frame`
 module _ (x : Said) where

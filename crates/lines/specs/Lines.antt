@@ -9,7 +9,7 @@ use Rattle.blocks.specs.Refusals.{refusalOf, toldOf}
 use Rattle.blocks.specs.declared.Cause.{Cause}
 use Rattle.blocks.specs.declared.Heading.{Heading}
 use Rattle.blocks.specs.declared.Told.{Told}
-use Rattle.blocks.specs.declared.Told.the-variants.{Nothing, Place}
+use Rattle.blocks.specs.declared.Told.the-variants.{Nothing, Place, PlaceAndSize}
 use Rattle.text.specs.Ascii.{ascii}
 use Rattle.text.specs.Decimal.{decimal}
 use Rattle.lines.specs.declared.Line.{Line}
@@ -47,13 +47,18 @@ frameLine x = decimal (x .number) ++ fields (x .correction ∷ []) ++ restOf x +
 unfoldable pub lastLine : ℕ → ℕ → List ℕ
 lastLine repaired breaks = pairLine (ascii "repaired ") repaired (ascii " breaks ") breaks
 
--- the one line of a refused recording: the refusal's number and the place it tells, 65536 where it tells nothing
-abbrev pub placeShown : Told → ℕ
-placeShown Nothing = longest
-placeShown (Place p) = p
+-- the one line of a refused recording: the refusal's number and the place it tells, 65536 where it tells nothing; and
+-- after the place the payload size, where that is told too (document 02, K1)
+abbrev pub numbersShown : Told → List ℕ
+numbersShown Nothing = longest ∷ []
+numbersShown (Place p) = p ∷ []
+numbersShown (PlaceAndSize p size) = p ∷ size ∷ []
+
+unfoldable pub refusalLine : ℕ → List ℕ → List ℕ
+refusalLine number shown = told (ascii "refused ") number ++ ascii " at" ++ fields shown ++ ascii "\n"
 
 unfoldable pub refusedLine : Cause → List ℕ
-refusedLine cause = pairLine (ascii "refused ") (refusalOf cause) (ascii " at ") (placeShown (toldOf cause))
+refusedLine cause = refusalLine (refusalOf cause) (numbersShown (toldOf cause))
 
 -- any line
 abbrev pub lineOf : Line → List ℕ

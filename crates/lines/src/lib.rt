@@ -4,9 +4,10 @@ use blocks::Cause;
 use blocks::Heading;
 use blocks::Told;
 ghost use mathlib.Core.Path.{_≡_};
+ghost use mathlib.Core.List.{[], _∷_};
 ghost use Prim.Native.Nat.{_≤_};
 ghost use Rattle.text.specs.Laid.{laid, after};
-ghost use Rattle.lines.specs.Lines.{headLine, frameLine, lastLine, placeShown, refusedLine, lineOf};
+ghost use Rattle.lines.specs.Lines.{headLine, frameLine, lastLine, numbersShown, refusalLine, refusedLine, lineOf};
 ghost use Rattle.lines.specs.Forms.{formText, Shows};
 
 // What is said of a frame: its number, its correction number, and its order mark, SY and four delays; or, where it is not 0, the
@@ -137,21 +138,39 @@ fn last(repaired: u32, breaks: u32) -> Form
 fn refused(cause: Cause) -> Form
     ensures { λ r. ⌜ Shows r (refusedLine cause) ⌝ }
 {
-    let number = refusals::refusal_number(cause) as u64;
-    let place = place_shown(refusals::tells(cause));
-    Form {
-        bytes: *b"refused \x00 at \x01\n             ",
-        size: 15,
-        numbers: [number, place, 0, 0, 0, 0, 0, 0],
+    let number = refusals::refusal_number(cause);
+    refusal(number, refusals::tells(cause))
+}
+
+// The line of a refusal by its number, with what it tells.
+fn refusal(number: u32, told: Told) -> Form
+    ensures { λ r. ⌜ Shows r (refusalLine number (numbersShown told)) ⌝ }
+{
+    match told {
+        Told::Nothing => refusal_at(number, 65536),
+        Told::Place(p) => refusal_at(number, p),
+        Told::PlaceAndSize(p, size) => refusal_with_size(number, p, size),
     }
 }
 
-// The place that is printed with a refusal.
-fn place_shown(told: Told) -> u64
-    ensures { λ r. ⌜ r ≡ placeShown told ⌝ }
+// The same with a place alone.
+fn refusal_at(number: u32, place: usize) -> Form
+    ensures { λ r. ⌜ Shows r (refusalLine number (place ∷ [])) ⌝ }
 {
-    match told {
-        Told::Nothing => 65536,
-        Told::Place(p) => p as u64,
+    Form {
+        bytes: *b"refused \x00 at \x01\n             ",
+        size: 15,
+        numbers: [number as u64, place as u64, 0, 0, 0, 0, 0, 0],
+    }
+}
+
+// The same with a place and a size.
+fn refusal_with_size(number: u32, place: usize, size: u32) -> Form
+    ensures { λ r. ⌜ Shows r (refusalLine number (place ∷ size ∷ [])) ⌝ }
+{
+    Form {
+        bytes: *b"refused \x00 at \x01 \x02\n           ",
+        size: 17,
+        numbers: [number as u64, place as u64, size as u64, 0, 0, 0, 0, 0],
     }
 }

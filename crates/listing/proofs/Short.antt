@@ -21,6 +21,8 @@ use Rattle.blocks.specs.Refusals.{refusalOf, toldOf}
 use Rattle.blocks.specs.declared.Cause.{Cause}
 use Rattle.blocks.specs.declared.Cause.the-variants.{TooLong, HeaderCut, PastEnd, WrongSize, UnknownKind}
 use Rattle.blocks.specs.declared.Cause.the-variants.{OutOfTurn, EndMissing, WrongCount, Extra}
+use Rattle.blocks.specs.declared.Told.{Told}
+use Rattle.blocks.specs.declared.Told.the-variants.{Nothing, Place, PlaceAndSize}
 use Rattle.blocks.specs.declared.Ending.{Ending}
 use Rattle.blocks.specs.declared.Ending.the-variants.{Sound, Refused}
 use Rattle.blocks.specs.declared.Walk.{Walk}
@@ -34,11 +36,12 @@ use Rattle.passes.proofs.Passes.{frames-most}
 use Rattle.text.specs.Ascii.{ascii}
 use Rattle.text.specs.Decimal.{decimal}
 use Rattle.text.proofs.Decimal.{decimal-most}
-use Rattle.lines.specs.Lines.{pairLine, headLine, fields, restOf, frameLine, lastLine, placeShown, refusedLine}
+use Rattle.lines.specs.Lines.{pairLine, headLine, fields, restOf, frameLine, lastLine, numbersShown, refusalLine}
+use Rattle.lines.specs.Lines.{refusedLine}
 use Rattle.listing.specs.Listing.{saidOf, headOf, frameOf, lastOf, linesTo, bodyOf, soundText, textBy}
 use Rattle.listing.specs.Listing.{listingOf, room}
 use Rattle.listing.specs.Promised.{ListingFits}
-use Rattle.listing.proofs.Told.{Placed, walked-small, walked-placed}
+use Rattle.listing.proofs.Told.{Tens, Brief, walked-small, walked-brief}
 
 -- ---- lines of words and numbers
 
@@ -68,29 +71,7 @@ head-short w a b c =
     (omega arith) b c in
     simp length-append (omega arith)
 
--- a refusal's number has at most twenty digits
-refusal-small : (cause : Cause) → refusalOf cause < 10 ^ 20
-refusal-small TooLong = omega arith
-refusal-small (HeaderCut p) = omega arith
-refusal-small (PastEnd p) = omega arith
-refusal-small (WrongSize p) = omega arith
-refusal-small (UnknownKind p) = omega arith
-refusal-small (OutOfTurn p) = omega arith
-refusal-small (EndMissing p) = omega arith
-refusal-small (WrongCount p) = omega arith
-refusal-small (Extra p) = omega arith
-
--- the line of a refused recording has at most a thousand bytes
-refused-short : (cause : Cause) → placeShown (toldOf cause) < 10 ^ 20 → length (refusedLine cause) ≤ 1000
-unfolding refusedLine
-refused-short cause a =
-    let l =
-    pair-short (ascii "refused ") (refusalOf cause) (ascii " at ") (placeShown (toldOf cause)) (omega arith)
-    (omega arith)
-    (refusal-small cause) a in
-    omega arith
-
--- ---- the line of a frame
+-- ---- fields
 
 -- a number below 10 to the d takes at most a space and d bytes
 field-short : (n d : ℕ) (ns : List ℕ) → 1 ≤ d → n < 10 ^ d → length (fields (n ∷ ns)) ≤ d + 1 + length (fields ns)
@@ -101,6 +82,46 @@ field-short n d ns a h = let l : length (decimal n) ≤ d = decimal-most n d a h
 fields-none : length (fields []) ≡ 0
 unfolding fields
 fields-none = refl
+
+-- numbers of ten digits take at most eleven bytes each
+fields-short : (ns : List ℕ) → Tens ns → length (fields ns) ≤ 11 * length ns
+unfolding Tens
+fields-short [] t = let z = fields-none in omega arith
+fields-short (n ∷ ns) t =
+    let f = field-short n 10 ns (omega arith) (t .0) in
+    let r = fields-short ns (t .1) in
+    omega arith
+
+-- ---- the line of a refusal
+
+-- a refusal's number has two digits at most
+refusal-small : (cause : Cause) → refusalOf cause < 10 ^ 2
+refusal-small TooLong = omega arith
+refusal-small (HeaderCut p) = omega arith
+refusal-small (PastEnd p) = omega arith
+refusal-small (WrongSize p size) = omega arith
+refusal-small (UnknownKind p) = omega arith
+refusal-small (OutOfTurn p) = omega arith
+refusal-small (EndMissing p) = omega arith
+refusal-small (WrongCount p) = omega arith
+refusal-small (Extra p) = omega arith
+
+-- it shows two numbers at most beside its own
+shown-few : (t : Told) → length (numbersShown t) ≤ 2
+shown-few Nothing = omega arith
+shown-few (Place p) = omega arith
+shown-few (PlaceAndSize p size) = omega arith
+
+-- so with a place and a size of ten digits each the line has at most a thousand bytes
+refused-short : (cause : Cause) → Tens (numbersShown (toldOf cause)) → length (refusedLine cause) ≤ 1000
+unfolding refusedLine refusalLine
+refused-short cause t =
+    let n = decimal-most (refusalOf cause) 2 (omega arith) (refusal-small cause) in
+    let f = fields-short (numbersShown (toldOf cause)) t in
+    let k = shown-few (toldOf cause) in
+    simp length-append (omega arith)
+
+-- ---- the line of a frame
 
 -- the refusal of a frame has one digit
 outcome-small : (o : Outcome) → values.refusalOf o < 10 ^ 1
@@ -175,10 +196,10 @@ body-short before frames h =
     simp length-append (omega arith)
 
 pub listing-fits : ListingFits
-unfolding ListingFits listingOf soundText Placed
-listing-fits s bytes = go (walkedOf s .ending) refl (walked-placed s bytes)
+unfolding ListingFits listingOf soundText Brief
+listing-fits s bytes = go (walkedOf s .ending) refl (walked-brief s bytes)
   where
-    go : (e : Ending) → walkedOf s .ending ≡ e → Placed e
+    go : (e : Ending) → walkedOf s .ending ≡ e → Brief e
         → length (textBy e (soundText (walkedOf s .walk) (framesOf s))) ≤ room
     go Sound e p =
         let k = walked-small s bytes in
@@ -186,4 +207,4 @@ listing-fits s bytes = go (walkedOf s .ending) refl (walked-placed s bytes)
         let b = body-short freshState (framesOf s) (frames-most s) in
         let l = head-short (walkedOf s .walk) (omega arith) (omega arith) (omega arith) in
         simp length-append (omega arith)
-    go (Refused cause) e p = let l = refused-short cause (omega arith) in omega arith
+    go (Refused cause) e p = let l = refused-short cause p in omega arith

@@ -1,11 +1,12 @@
--- What a walk tells is small: a head's numbers have ten digits at most, there are no more frames than bytes, and the
--- place that a refusal shows is in the recording, or at its end, or the longest length of one. Assumes nothing.
+-- What a walk tells is small: a head's numbers have ten digits at most, there are no more frames than bytes, and each
+-- number that a refusal shows has ten digits at most. Assumes nothing.
 use mathlib.Core.Path.{_≡_, refl, ap, subst}
 use mathlib.Core.Bool.{false, not}
-use mathlib.Core.List.{List}
+use mathlib.Core.List.{List, [], _∷_}
 use Prim.Native.Nat.{ℕ, _+_, _*_, _^_, _<_, _≤_}
 use native.Mathlib.Omega.{arith}
 use native.Mathlib.Decide.{decLe}
+use borrow.Author.Tests.{leb-true}
 use lib.Dec.{eqb, leb, ltb}
 use lib.ListN.{length, getD}
 use Rattle.laws.specs.Bytes.{wordAt}
@@ -25,54 +26,60 @@ use Rattle.blocks.specs.declared.Moved.{Moved}
 use Rattle.blocks.specs.declared.Moved.the-variants.{On, Done}
 use Rattle.blocks.proofs.Blocks.{head-held, end-held}
 use Rattle.blocks.proofs.Walks.{step-on, step-further, walked-keeps, walked-stops, too-long}
-use Rattle.lines.specs.Lines.{placeShown}
+use Rattle.lines.specs.Lines.{numbersShown}
 
--- ---- the place of a refusal
+-- ---- the numbers of a refusal
 
--- of an ending, and of what stands at a place or what a step comes to, if it is a refusal
-unfoldable pub Placed : Ending → Type 0
-Placed Sound = Unit
-Placed (Refused cause) = placeShown (toldOf cause) ≤ longest
+-- each has ten digits at most
+unfoldable pub Tens : List ℕ → Type 0
+Tens [] = Unit
+Tens (n ∷ ns) = (n < 10 ^ 10) × Tens ns
 
--- the place of a block's refusal
-PlacedBlock : Block → Type 0
-PlacedBlock (Head heading) = Unit
-PlacedBlock (Voice size) = Unit
-PlacedBlock (End told) = Unit
-PlacedBlock (Broken cause) = placeShown (toldOf cause) ≤ longest
+-- so of what an ending shows, if it is a refusal
+unfoldable pub Brief : Ending → Type 0
+Brief Sound = Unit
+Brief (Refused cause) = Tens (numbersShown (toldOf cause))
 
--- the place of a step's refusal
-PlacedMove : Moved → Type 0
-PlacedMove (On w) = Unit
-PlacedMove (Done ending) = Placed ending
+-- of what stands at a place
+BriefBlock : Block → Type 0
+BriefBlock (Head heading) = Unit
+BriefBlock (Voice size) = Unit
+BriefBlock (End told) = Unit
+BriefBlock (Broken cause) = Tens (numbersShown (toldOf cause))
+
+-- and of what a step comes to
+BriefMove : Moved → Type 0
+BriefMove (On w) = Unit
+BriefMove (Done ending) = Brief ending
 
 module _ (s : List ℕ) (short : length s ≤ longest) where
-  -- the block at a place within the recording
-  block-placed : (at : ℕ) → at ≤ length s → PlacedBlock (blockAt s at)
-  unfolding PlacedBlock blockAt
-  block-placed at h =
-      chosen PlacedBlock (ltb at (length s)) (λ a.
-      chosen PlacedBlock (leb (at + 6) (length s)) (λ b.
-      chosen PlacedBlock (leb (at + 6 + sizeAt s at) (length s)) (λ c.
-      chosen PlacedBlock (rightSize (kindAt s at) (sizeAt s at)) (λ d.
-      chosen PlacedBlock (eqb (kindAt s at) 1) (λ e. tt) (λ e.
-      chosen PlacedBlock (eqb (kindAt s at) 2) (λ f. tt) (λ f.
-      chosen PlacedBlock (eqb (kindAt s at) 3) (λ g. tt) (λ g. omega arith))))
-      (λ d. omega arith)) (λ c. omega arith)) (λ b. omega arith)) (λ a. short)
+  -- the block at a place within the recording: a size that is told fits there
+  block-brief : (at : ℕ) → at ≤ length s → BriefBlock (blockAt s at)
+  unfolding BriefBlock Tens blockAt
+  block-brief at h =
+      chosen BriefBlock (ltb at (length s)) (λ a.
+      chosen BriefBlock (leb (at + 6) (length s)) (λ b.
+      chosen BriefBlock (leb (at + 6 + sizeAt s at) (length s)) (λ c.
+      chosen BriefBlock (rightSize (kindAt s at) (sizeAt s at)) (λ d.
+      chosen BriefBlock (eqb (kindAt s at) 1) (λ e. tt) (λ e.
+      chosen BriefBlock (eqb (kindAt s at) 2) (λ f. tt) (λ f.
+      chosen BriefBlock (eqb (kindAt s at) 3) (λ g. tt) (λ g. (omega arith, tt)))))
+      (λ d. (omega arith, (omega (arith, leb-true (at + 6 + sizeAt s at) (length s) c), tt))))
+      (λ c. (omega arith, tt))) (λ b. (omega arith, tt))) (λ a. (omega arith, tt))
 
   -- a step of a walk that is within it
-  step-placed : (w : Walk) → w .at ≤ length s → PlacedMove (stepOf s w)
-  unfolding Placed PlacedBlock PlacedMove stepOf
-  step-placed w k = go (blockAt s (w .at)) refl (block-placed (w .at) k)
+  step-brief : (w : Walk) → w .at ≤ length s → BriefMove (stepOf s w)
+  unfolding Brief BriefBlock BriefMove Tens stepOf
+  step-brief w k = go (blockAt s (w .at)) refl (block-brief (w .at) k)
     where
-      go : (b : Block) → blockAt s (w .at) ≡ b → PlacedBlock b → PlacedMove (met s w b)
-      go (Head heading) e p = chosen PlacedMove (not (w .headed)) (λ t. tt) (λ t. omega arith)
-      go (Voice size) e p = chosen PlacedMove (w .headed) (λ t. tt) (λ t. omega arith)
+      go : (b : Block) → blockAt s (w .at) ≡ b → BriefBlock b → BriefMove (met s w b)
+      go (Head heading) e p = chosen BriefMove (not (w .headed)) (λ t. tt) (λ t. (omega arith, tt))
+      go (Voice size) e p = chosen BriefMove (w .headed) (λ t. tt) (λ t. (omega arith, tt))
       go (End told) e p =
-          chosen Placed (ltb 0 (w .frames)) (λ a.
-          chosen Placed (eqb told (w .frames)) (λ b.
-          chosen Placed (eqb (length s) (w .at + 6 + 4)) (λ c. tt)
-          (λ c. omega (arith, end-held s (w .at) told e .0 .fits))) (λ b. omega arith)) (λ a. omega arith)
+          chosen Brief (ltb 0 (w .frames)) (λ a.
+          chosen Brief (eqb told (w .frames)) (λ b.
+          chosen Brief (eqb (length s) (w .at + 6 + 4)) (λ c. tt)
+          (λ c. (omega (arith, end-held s (w .at) told e .0 .fits), tt))) (λ b. (omega arith, tt))) (λ a. (omega arith, tt))
       go (Broken cause) e p = p
 
 -- ---- the numbers of a head, and how many frames
@@ -111,14 +118,14 @@ module _ (s : List ℕ) (bytes : (i : ℕ) → getD s i 0 < 256) where
 
   -- ---- the whole
 
-  -- the place of its refusal is in the recording or at its end
-  pub walked-placed : Placed (walkedOf s .ending)
-  unfolding Placed PlacedMove
-  walked-placed = go (decLe (length s) longest)
+  -- the numbers of its refusal have ten digits at most
+  pub walked-brief : Brief (walkedOf s .ending)
+  unfolding Brief BriefMove Tens
+  walked-brief = go (decLe (length s) longest)
     where
-      go : Dec (length s ≤ longest) → Placed (walkedOf s .ending)
+      go : Dec (length s ≤ longest) → Brief (walkedOf s .ending)
       go (yes short) =
-          subst PlacedMove (walked-stops s short) (step-placed s short (walkedOf s .walk) (walked-small .within))
+          subst BriefMove (walked-stops s short) (step-brief s short (walkedOf s .walk) (walked-small .within))
       go (no w) =
           let e : Refused TooLong ≡ walkedOf s .ending = ap (λ (x : Walked). x .ending) (too-long s (omega arith)) in
-          subst Placed e (omega arith)
+          subst Brief e (omega arith, tt)

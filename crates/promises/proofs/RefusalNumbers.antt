@@ -283,7 +283,7 @@ module _ (s : List ℕ) where
   cause-row TooLong g = too-long g
   cause-row (HeaderCut p) g = header-cut p g
   cause-row (PastEnd p) g = past-end p g
-  cause-row (WrongSize p) g = wrong-size p g
+  cause-row (WrongSize p size) g = wrong-size p size g
   cause-row (UnknownKind p) g = unknown-kind p g
   cause-row (OutOfTurn p) g = out-of-turn p g
   cause-row (EndMissing p) g = end-missing p g
@@ -306,7 +306,7 @@ module _ (s : List ℕ) where
   recording-at (too-long g) = refused-at TooLong g
   recording-at (header-cut p g) = refused-at (HeaderCut p) g
   recording-at (past-end p g) = refused-at (PastEnd p) g
-  recording-at (wrong-size p g) = refused-at (WrongSize p) g
+  recording-at (wrong-size p size g) = refused-at (WrongSize p size) g
   recording-at (unknown-kind p g) = refused-at (UnknownKind p) g
   recording-at (out-of-turn p g) = refused-at (OutOfTurn p) g
   recording-at (end-missing p g) = refused-at (EndMissing p) g

@@ -21,9 +21,9 @@ use Rattle.blocks.specs.Frames.{framesOf}
 use Rattle.blocks.specs.Refusals.{refusalOf}
 use Rattle.passes.specs.Counted.{countsOf}
 use Rattle.recording.specs.Judged.{summaryOf, judgedBy, judgedOf}
-use Rattle.promises.specs.Rule.{knownKind, inTurn, Condition, order, tried, LowestFirst, NoneMet}
+use Rattle.promises.specs.Rule.{knownKind, inTurn, Condition, order, tried, NumbersInTurn, NoneMet}
 use Rattle.promises.specs.Rule.{ClearBefore, Reached, Given}
-use Rattle.promises.specs.Rule.{Accepted, RefusedExactly, RefusedKeeps, SoundExactly}
+use Rattle.promises.specs.Rule.{Accepted, RefusedExactly, BlockFaultsTold, RefusedKeeps, SoundExactly}
 use Rattle.promises.specs.Rule.Reached.{at-first, past-head, past-voice}
 use Rattle.blocks.specs.declared.Cause.{Cause}
 use Rattle.blocks.specs.declared.Cause.the-variants.{TooLong, HeaderCut, PastEnd, WrongSize, UnknownKind}
@@ -43,12 +43,12 @@ use Rattle.blocks.proofs.Walks as walks
 
 -- ---- one cause at a time
 
--- the cause of each order, with the place that it tells at a walk
+-- the cause of each order, with what it tells at a walk
 causeBy : List ℕ → Walk → ℕ → Cause
 causeBy s w n =
     getD
-    (TooLong ∷ HeaderCut (w .at) ∷ PastEnd (w .at) ∷ WrongSize (w .at) ∷ UnknownKind (w .at) ∷ OutOfTurn (w .at)
-    ∷ EndMissing (length s) ∷ WrongCount (w .at) ∷ Extra (w .at + 6 + 4) ∷ [])
+    (TooLong ∷ HeaderCut (w .at) ∷ PastEnd (w .at) ∷ WrongSize (w .at) (sizeAt s (w .at)) ∷ UnknownKind (w .at)
+    ∷ OutOfTurn (w .at) ∷ EndMissing (length s) ∷ WrongCount (w .at) ∷ Extra (w .at + 6 + 4) ∷ [])
     n TooLong
 
 -- a cause whose condition is met is the one of its order
@@ -57,7 +57,7 @@ unfolding causeBy
 named s w TooLong q = refl
 named s w (HeaderCut p) q = ap HeaderCut (q .0)
 named s w (PastEnd p) q = ap PastEnd (q .0)
-named s w (WrongSize p) q = ap WrongSize (q .0)
+named s w (WrongSize p size) q = ap (λ (n : ℕ). WrongSize n size) (q .0) ∙ ap (WrongSize (w .at)) (q .1)
 named s w (UnknownKind p) q = ap UnknownKind (q .0)
 named s w (OutOfTurn p) q = ap OutOfTurn (q .0)
 named s w (EndMissing p) q = ap EndMissing (q .0)
@@ -69,7 +69,7 @@ order-small : (c : Cause) → order c < 9
 order-small TooLong = omega arith
 order-small (HeaderCut p) = omega arith
 order-small (PastEnd p) = omega arith
-order-small (WrongSize p) = omega arith
+order-small (WrongSize p size) = omega arith
 order-small (UnknownKind p) = omega arith
 order-small (OutOfTurn p) = omega arith
 order-small (EndMissing p) = omega arith
@@ -102,7 +102,7 @@ first-alone s w c d p a q b = named s w c p ∙ ap (causeBy s w) same ∙ sym (n
         go (no l) (yes m) = absurd (a d m q)
         go (no l) (no m) = omega arith
 
--- ---- lowest number first
+-- ---- the numbers in their turn
 
 -- the turn of the number of each order
 turnBy : ℕ → ℕ
@@ -114,7 +114,7 @@ unfolding turnBy causeBy
 by-order TooLong = refl
 by-order (HeaderCut p) = refl
 by-order (PastEnd p) = refl
-by-order (WrongSize p) = refl
+by-order (WrongSize p size) = refl
 by-order (UnknownKind p) = refl
 by-order (OutOfTurn p) = refl
 by-order (EndMissing p) = refl
@@ -150,8 +150,8 @@ rises m n a b h =
           (both-left (leb (suc (turnBy m)) (length tried)) (cond (leb m n) (leb (turnBy m) (turnBy n)) true) t),
     )
 
-pub lowest-first : LowestFirst
-lowest-first c d h = rw (by-order c, by-order d) (rises (order c) (order d) (order-small c) (order-small d) h)
+pub numbers-in-turn : NumbersInTurn
+numbers-in-turn c d h = rw (by-order c, by-order d) (rises (order c) (order d) (order-small c) (order-small d) h)
 
 -- ---- kinds and turns as tests
 
@@ -226,7 +226,7 @@ module _ (s : List ℕ) (w : Walk) (inside : w .at ≤ length s) (short : length
       (clear-more s w 4
       (clear-more s w 3
       (clear-more s w 2 (clear-more s w 1 clear-long (λ q. omega (arith, q .1))) (λ q. omega (arith, q .1)))
-      (λ q. omega (arith, q .1))) (λ q. omega (arith, q .1))) (λ q. omega (arith, q .1)))
+      (λ q. omega (arith, q .2))) (λ q. omega (arith, q .1))) (λ q. omega (arith, q .1)))
 
   -- the conditions that are not met, one more as each is seen not to be
   module _ (whole : w .at + 6 ≤ length s) where
@@ -242,7 +242,7 @@ module _ (s : List ℕ) (w : Walk) (inside : w .at ≤ length s) (short : length
       module _ (right : rightSize kind size ≡ true) where
         clear-size : ClearBefore s w 4
         unfolding causeBy
-        clear-size = clear-more s w 3 clear-past (λ q. clash (rightSize kind size) right (q .2))
+        clear-size = clear-more s w 3 clear-past (λ q. clash (rightSize kind size) right (q .3))
 
         module _ (known : knownKind kind ≡ true) where
           clear-kind : ClearBefore s w 5
@@ -325,7 +325,7 @@ module _ (s : List ℕ) (w : Walk) (inside : w .at ≤ length s) (short : length
       chosen (λ (b : Block). Seen s w (met s w b)) (leb (w .at + 6 + size) (length s)) (λ c.
       let fits = leb-true (w .at + 6 + size) (length s) c in
       chosen (λ (b : Block). Seen s w (met s w b)) (rightSize kind size) (see-kind whole fits)
-      (λ r. seen-refused (WrongSize (w .at)) (refl, whole, r) (clear-past whole fits)))
+      (λ r. seen-refused (WrongSize (w .at) size) (refl, refl, whole, r) (clear-past whole fits)))
       (λ c. seen-refused (PastEnd (w .at)) (refl, whole, leb-false (w .at + 6 + size) (length s) c)
       (clear-cut whole)))
       (λ b.
@@ -512,6 +512,33 @@ walked-judged s x e = ap (λ (y : Ending). judgedBy y (summaryOf (walkedOf s .wa
 pub refused-exactly : RefusedExactly
 refused-exactly s c =
     (λ e. refused-given s c (judged-refused s c e) .0, λ g. walked-judged s (Refused c) (given-refused s c g))
+
+-- what the block at a place tells, from the block at which its refusal is given
+module _ (s : List ℕ) (p : ℕ) where
+  cut-told : Given s (HeaderCut p) → (p < length s) × (length s < p + 6)
+  cut-told g = let h = g .here in (omega (arith, h .0, h .1), omega (arith, h .0, h .2))
+
+  past-told : Given s (PastEnd p) → (p + 6 ≤ length s) × (length s < p + 6 + sizeAt s p)
+  past-told g = let h = g .here in rw (h .0) (h .1, h .2)
+
+  -- a payload that ran past the end would have been refused before
+  size-told : (size : ℕ) → Given s (WrongSize p size)
+      → (size ≡ sizeAt s p) × (p + 6 + size ≤ length s) × (rightSize (kindAt s p) size ≡ false)
+  size-told size g =
+      let h = g .here in
+      let at = g .walk .at in
+      rw (h .0, h .1) (refl, go (decLe (at + 6 + sizeAt s at) (length s)), h .3)
+    where
+      go : let at = g .walk .at in Dec (at + 6 + sizeAt s at ≤ length s) → at + 6 + sizeAt s at ≤ length s
+      go (yes l) = l
+      go (no l) = absurd (g .first (PastEnd (g .walk .at)) (omega arith) (refl, g .here .2, omega (arith, l)))
+
+pub block-faults-told : BlockFaultsTold
+block-faults-told s p size = (
+  λ e. cut-told s p (refused-exactly s (HeaderCut p) .0 e),
+  λ e. past-told s p (refused-exactly s (PastEnd p) .0 e),
+  λ e. size-told s p size (refused-exactly s (WrongSize p size) .0 e),
+)
 
 pub refused-keeps : RefusedKeeps
 refused-keeps = refused-given

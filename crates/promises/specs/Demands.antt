@@ -18,7 +18,7 @@ use Rattle.promises.specs.Values.{DrawsWrap, DrawsAtPositions}
 use Rattle.promises.specs.RefusalNumbers.{ReaderNumbers, WriterNumbers, HearingNumbers, DelayNumbers, CodeNumbers}
 use Rattle.promises.specs.RefusalNumbers.{GainNumbers, RecordingNumbers, ReadResultNumbers, WriteResultNumbers}
 use Rattle.promises.specs.RefusalNumbers.{HertzNumbers, MeaningNumbers}
-use Rattle.promises.specs.Rule.{LowestFirst, RefusedExactly, RefusedKeeps, SoundExactly}
+use Rattle.promises.specs.Rule.{NumbersInTurn, BlockFaultsTold, RefusedExactly, RefusedKeeps, SoundExactly}
 use Rattle.promises.specs.Made.{MadeIsSound, SoundIsMade, NoTwo}
 use Rattle.promises.specs.Parts.{VoiceBlocksStand, NoSuchBlock, FramesAreAll, FramesAreLong, FramesFit, EndCounts}
 use Rattle.promises.specs.Parts.{RepairsCounted, BreaksCounted, RefusedHasNone, EmptyRefused}
@@ -66,7 +66,8 @@ pub record DemandOne : Type 0 where
   pub refused-exactly : RefusedExactly
   pub refused-keeps : RefusedKeeps
   pub sound-exactly : SoundExactly
-  pub lowest-first : LowestFirst
+  pub numbers-in-turn : NumbersInTurn
+  pub block-faults-told : BlockFaultsTold
   pub refused-has-none : RefusedHasNone
   pub empty-refused : EmptyRefused
   pub refused-listing-stays : RefusedListingStays

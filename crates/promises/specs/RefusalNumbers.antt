@@ -127,9 +127,9 @@ GainNumbers =
 -- a recording, walked through or judged
 pub data RecordingTable (s : List ℕ) : ℕ → List ℕ → Type 0 where
   too-long : Given s TooLong → RecordingTable s 1 []
-  header-cut : (p : ℕ) → Given s (HeaderCut p) → RecordingTable s 7 (p ∷ [])
-  past-end : (p : ℕ) → Given s (PastEnd p) → RecordingTable s 7 (p ∷ [])
-  wrong-size : (p : ℕ) → Given s (WrongSize p) → RecordingTable s 7 (p ∷ [])
+  header-cut : (p : ℕ) → Given s (HeaderCut p) → RecordingTable s 9 (p ∷ [])
+  past-end : (p : ℕ) → Given s (PastEnd p) → RecordingTable s 10 (p ∷ [])
+  wrong-size : (p size : ℕ) → Given s (WrongSize p size) → RecordingTable s 11 (p ∷ size ∷ [])
   unknown-kind : (p : ℕ) → Given s (UnknownKind p) → RecordingTable s 8 (p ∷ [])
   out-of-turn : (p : ℕ) → Given s (OutOfTurn p) → RecordingTable s 8 (p ∷ [])
   end-missing : (p : ℕ) → Given s (EndMissing p) → RecordingTable s 8 (p ∷ [])

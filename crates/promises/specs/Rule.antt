@@ -1,5 +1,5 @@
--- When a recording is refused, and by which refusal (document 01, "Refusal numbers"): each is given exactly when its
--- condition is met and none earlier is.
+-- When a recording is refused, and by which refusal (document 01, "Refusal numbers"; document 02, K1): each is given
+-- exactly when its condition is met and none earlier is.
 use mathlib.Core.Path.{_≡_}
 use mathlib.Core.Bool.{Bool, true, false, not, cond}
 use mathlib.Core.List.{List, [], _∷_}
@@ -30,13 +30,15 @@ unfoldable pub inTurn : Walk → ℕ → Bool
 inTurn w kind =
     cond (eqb kind 1) (not (w .headed)) (cond (eqb kind 2) (w .headed) (cond (eqb kind 3) (ltb 0 (w .frames)) true))
 
--- the condition of each refusal at the block that a walk has come to, with the place that is told
+-- the condition of each refusal at the block that a walk has come to, with what is told: the place, and the payload size
+-- where that is wrong for its kind
 abbrev pub Condition : List ℕ → Walk → Cause → Type 0
 Condition s w TooLong = longest < length s
 Condition s w (HeaderCut p) = (p ≡ w .at) × (w .at < length s) × (length s < w .at + 6)
 Condition s w (PastEnd p) = (p ≡ w .at) × (w .at + 6 ≤ length s) × (length s < w .at + 6 + sizeAt s (w .at))
-Condition s w (WrongSize p) =
-    (p ≡ w .at) × (w .at + 6 ≤ length s) × (rightSize (kindAt s (w .at)) (sizeAt s (w .at)) ≡ false)
+Condition s w (WrongSize p size) =
+    (p ≡ w .at) × (size ≡ sizeAt s (w .at)) × (w .at + 6 ≤ length s)
+    × (rightSize (kindAt s (w .at)) (sizeAt s (w .at)) ≡ false)
 Condition s w (UnknownKind p) = (p ≡ w .at) × (w .at + 6 ≤ length s) × (knownKind (kindAt s (w .at)) ≡ false)
 Condition s w (OutOfTurn p) = (p ≡ w .at) × (w .at + 6 ≤ length s) × (inTurn w (kindAt s (w .at)) ≡ false)
 Condition s w (EndMissing p) = (p ≡ length s) × (w .at ≡ length s)
@@ -49,20 +51,20 @@ abbrev pub order : Cause → ℕ
 order TooLong = 0
 order (HeaderCut p) = 1
 order (PastEnd p) = 2
-order (WrongSize p) = 3
+order (WrongSize p size) = 3
 order (UnknownKind p) = 4
 order (OutOfTurn p) = 5
 order (EndMissing p) = 6
 order (WrongCount p) = 7
 order (Extra p) = 8
 
--- "1, then block by block, 7 before 8": the numbers as they are tried at one block. In that order the lowest number
--- comes first.
+-- "1, then block by block" 9, 10, 11, "in that order, before 8" (K1): the numbers as they are tried at one block. The
+-- causes come in the order of their numbers here.
 abbrev pub tried : List ℕ
-tried = 1 ∷ 7 ∷ 8 ∷ []
+tried = 1 ∷ 9 ∷ 10 ∷ 11 ∷ 8 ∷ []
 
-abbrev pub LowestFirst : Type 0
-LowestFirst =
+abbrev pub NumbersInTurn : Type 0
+NumbersInTurn =
     (c d : Cause) → order c ≤ order d
     → (placeIn (refusalOf c) tried ≤ placeIn (refusalOf d) tried) × (placeIn (refusalOf c) tried < length tried)
 
@@ -97,6 +99,17 @@ pub record Accepted (s : List ℕ) : Type 0 where
 
 abbrev pub RefusedExactly : Type 0
 RefusedExactly = (s : List ℕ) (c : Cause) → (judgedOf s ≡ Refused c) ↔ Given s c
+
+-- what 9, 10 and 11 tell of the bytes from the place on: they are fewer than a header; the header is whole, and its
+-- length runs past the end; the header and its payload are whole, and the size that is told is the header's and wrong
+-- for its kind (K1)
+abbrev pub BlockFaultsTold : Type 0
+BlockFaultsTold =
+    (s : List ℕ) (p size : ℕ)
+    → (judgedOf s ≡ Refused (HeaderCut p) → (p < length s) × (length s < p + 6))
+    × (judgedOf s ≡ Refused (PastEnd p) → (p + 6 ≤ length s) × (length s < p + 6 + sizeAt s p))
+    × (judgedOf s ≡ Refused (WrongSize p size)
+    → (size ≡ sizeAt s p) × (p + 6 + size ≤ length s) × (rightSize (kindAt s p) size ≡ false))
 
 -- the walk that is answered with a refusal stands at a block at which it is given: what was passed before it is kept
 abbrev pub RefusedKeeps : Type 0

@@ -10,9 +10,9 @@ pub fn refusal_number(cause: Cause) -> u32
 {
     match cause {
         Cause::TooLong => 1,
-        Cause::HeaderCut(_) => 7,
-        Cause::PastEnd(_) => 7,
-        Cause::WrongSize(_) => 7,
+        Cause::HeaderCut(_) => 9,
+        Cause::PastEnd(_) => 10,
+        Cause::WrongSize(_, _) => 11,
         Cause::UnknownKind(_) => 8,
         Cause::OutOfTurn(_) => 8,
         Cause::EndMissing(_) => 8,
@@ -29,7 +29,7 @@ pub fn tells(cause: Cause) -> Told
         Cause::TooLong => Told::Nothing,
         Cause::HeaderCut(p) => Told::Place(p),
         Cause::PastEnd(p) => Told::Place(p),
-        Cause::WrongSize(p) => Told::Place(p),
+        Cause::WrongSize(p, size) => Told::PlaceAndSize(p, size),
         Cause::UnknownKind(p) => Told::Place(p),
         Cause::OutOfTurn(p) => Told::Place(p),
         Cause::EndMissing(p) => Told::Place(p),
