@@ -319,56 +319,63 @@ fn end() -> Block {
 }
 
 impl Edges {
-    fn sound_one(&mut self, name: &str, bytes: Vec<u8>) {
-        self.0.push(Edge {
-            name: name.to_string(),
-            bytes,
-            refused: None,
-        });
-    }
-
-    fn refused(&mut self, name: impl Into<String>, bytes: Vec<u8>, number: u8, at: u32) {
+    fn add(&mut self, name: impl Into<String>, bytes: Vec<u8>, refused: Option<Refusal>) {
         self.0.push(Edge {
             name: name.into(),
             bytes,
-            refused: Some(Refusal::new(number, at)),
+            refused,
         });
+    }
+
+    fn sound_one(&mut self, name: &str, bytes: Vec<u8>) {
+        self.add(name, bytes, None);
+    }
+
+    fn refused(&mut self, name: impl Into<String>, bytes: Vec<u8>, number: u8, at: u32) {
+        self.add(name, bytes, Some(Refusal::new(number, at)));
+    }
+
+    fn wrong_size(&mut self, name: impl Into<String>, bytes: Vec<u8>, at: u32, size: u32) {
+        self.add(name, bytes, Some(Refusal::wrong_size(at, size)));
     }
 
     fn short(&mut self) {
         self.refused("empty", Vec::new(), 8, 0);
         for length in 1..=5 {
-            self.refused(format!("{length} zeros"), vec![0; length], 7, 0);
+            self.refused(format!("{length} zeros"), vec![0; length], 9, 0);
         }
         self.refused("6 zeros", vec![0; 6], 8, 0);
         for kind in [HEAD, VOICE, END] {
-            self.refused(
+            self.wrong_size(
                 format!("only a header of kind {kind}"),
                 joined(&[Block::zeros(kind, 0)]),
-                7,
+                0,
                 0,
             );
         }
         self.refused(
             "only a header, payload missing",
             joined(&[Block::zeros(HEAD, 0).saying(8)]),
-            7,
+            10,
             0,
         );
         self.refused(
             "only a header, kind 4",
             joined(&[Block::zeros(4, 0).saying(1)]),
-            7,
+            10,
             0,
         );
         let whole = joined(&[head(), voice(), end()]);
         for length in 1..whole.len() {
             let (number, at) = match length {
+                1..=5 => (9, 0),
+                6..=13 => (10, 0),
                 14 => (8, AFTER_HEAD),
+                15..=19 => (9, AFTER_HEAD),
+                20..=37 => (10, AFTER_HEAD),
                 38 => (8, AFTER_VOICE),
-                1..=13 => (7, 0),
-                15..=37 => (7, AFTER_HEAD),
-                _ => (7, AFTER_VOICE),
+                39..=43 => (9, AFTER_VOICE),
+                _ => (10, AFTER_VOICE),
             };
             self.refused(
                 format!("cut to {length} bytes"),
@@ -461,17 +468,18 @@ impl Edges {
     fn sizes(&mut self) {
         for size in [0, 1, 7, 9, 16, 18] {
             let bytes = joined(&[Block::zeros(HEAD, size), voice(), end()]);
-            self.refused(format!("head of {size}"), bytes, 7, 0);
+            self.wrong_size(format!("head of {size}"), bytes, 0, size as u32);
         }
         for size in [0, 1, 8, 17, 19, 35, 37] {
+            let said = size as u32;
             let bytes = joined(&[head(), Block::zeros(VOICE, size), end()]);
-            self.refused(format!("voice of {size}"), bytes, 7, AFTER_HEAD);
+            self.wrong_size(format!("voice of {size}"), bytes, AFTER_HEAD, said);
             let bytes = joined(&[head(), voice(), Block::zeros(VOICE, size), end()]);
-            self.refused(format!("second voice of {size}"), bytes, 7, AFTER_VOICE);
+            self.wrong_size(format!("second voice of {size}"), bytes, AFTER_VOICE, said);
         }
         for size in [0, 3, 5, 8, 18] {
             let bytes = joined(&[head(), voice(), Block::zeros(END, size)]);
-            self.refused(format!("end of {size}"), bytes, 7, AFTER_VOICE);
+            self.wrong_size(format!("end of {size}"), bytes, AFTER_VOICE, size as u32);
         }
     }
 
@@ -508,12 +516,12 @@ impl Edges {
             self.refused(
                 name("past the end"),
                 joined(&[head(), voice(), past]),
-                7,
+                10,
                 AFTER_VOICE,
             );
             let mut cut = joined(&[head(), voice(), strange(0)]);
             cut.pop();
-            self.refused(name("cut"), cut, 7, AFTER_VOICE);
+            self.refused(name("cut"), cut, 9, AFTER_VOICE);
         }
     }
 
@@ -554,55 +562,55 @@ impl Edges {
             8,
             AFTER_HEAD,
         );
-        // On one block 7 comes before 8.
-        self.refused(
+        // On one block a wrong size or a length past the end comes before 8.
+        self.wrong_size(
             "second head of 7",
             joined(&[head(), Block::zeros(HEAD, 7), voice(), end()]),
-            7,
             AFTER_HEAD,
+            7,
         );
-        self.refused(
+        self.wrong_size(
             "end of 5 before voice",
             joined(&[head(), Block::zeros(END, 5)]),
-            7,
             AFTER_HEAD,
+            5,
         );
-        self.refused(
+        self.wrong_size(
             "end of 3 first",
             joined(&[Block::zeros(END, 3), head(), voice(), end()]),
-            7,
             0,
+            3,
         );
-        self.refused(
+        self.wrong_size(
             "voice of 17 first",
             joined(&[Block::zeros(VOICE, 17), head(), end()]),
-            7,
             0,
+            17,
         );
-        self.refused(
+        self.wrong_size(
             "voice of 0 first",
             joined(&[Block::zeros(VOICE, 0), head(), end()]),
-            7,
+            0,
             0,
         );
         self.refused(
             "second head past the end",
             joined(&[head(), head().saying(9)]),
-            7,
+            10,
             AFTER_HEAD,
         );
-        // But an earlier block's 8 comes before a later one's 7.
+        // But an earlier block's 8 comes before a later one's 11.
         self.refused(
-            "8 and then 7",
+            "head twice and then a voice of 17",
             joined(&[head(), head(), Block::zeros(VOICE, 17)]),
             8,
             AFTER_HEAD,
         );
-        self.refused(
-            "7 and then 8",
+        self.wrong_size(
+            "voice of 17 and then a head",
             joined(&[head(), Block::zeros(VOICE, 17), head()]),
-            7,
             AFTER_HEAD,
+            17,
         );
     }
 
@@ -682,57 +690,57 @@ impl Edges {
             self.refused(
                 name("of the head"),
                 joined(&[head().saying(length), voice(), end()]),
-                7,
+                10,
                 0,
             );
             self.refused(
                 name("of a voice"),
                 joined(&[head(), voice().saying(length), end()]),
-                7,
+                10,
                 AFTER_HEAD,
             );
             self.refused(
                 name("of the end"),
                 joined(&[head(), voice(), end().saying(length)]),
-                7,
+                10,
                 AFTER_VOICE,
             );
             let strange = Block::zeros(9, 4).saying(length);
             self.refused(
                 name("of kind 9"),
                 joined(&[head(), voice(), strange]),
-                7,
+                10,
                 AFTER_VOICE,
             );
         }
         self.refused(
             "voice past the end",
             joined(&[head(), voice().saying(36), end()]),
-            7,
+            10,
             AFTER_HEAD,
         );
         self.refused(
             "voice past the end by one",
             joined(&[head(), voice().saying(29), end()]),
-            7,
+            10,
             AFTER_HEAD,
         );
-        self.refused(
+        self.wrong_size(
             "voice over the end",
             joined(&[head(), voice().saying(28), end()]),
-            7,
             AFTER_HEAD,
+            28,
         );
         self.refused(
             "end past the end by one",
             joined(&[head(), voice(), end().saying(5)]),
-            7,
+            10,
             AFTER_VOICE,
         );
-        self.refused(
+        self.wrong_size(
             "head shortened",
             joined(&[Block::zeros(HEAD, 8).saying(0), voice(), end()]),
-            7,
+            0,
             0,
         );
         // The eighteen zeros left over are then read as a header of kind 0.
@@ -752,7 +760,7 @@ impl Edges {
         ];
         self.sound_one("end swallowed by a voice", joined(&blocks));
         let swapped = joined(&[head().saying(8u32.swap_bytes()), voice(), end()]);
-        self.refused("length with its bytes turned", swapped, 7, 0);
+        self.refused("length with its bytes turned", swapped, 10, 0);
     }
 
     fn limits(&mut self) {
@@ -778,11 +786,11 @@ impl Edges {
             8,
             AFTER_HEAD,
         );
-        self.refused(
+        self.wrong_size(
             "65,536 bytes, voice size wrong",
             joined(&[head(), Block::zeros(VOICE, 65_516)]),
-            7,
             AFTER_HEAD,
+            65_516,
         );
         let three = [
             head(),
@@ -794,7 +802,7 @@ impl Edges {
         let at = cut.len() as u32;
         self.refused("end missing near the limit", cut.clone(), 8, at);
         cut.extend_from_slice(&[4, 0]);
-        self.refused("65,536 bytes, header cut", cut, 7, at);
+        self.refused("65,536 bytes, header cut", cut, 9, at);
         let most_blocks: Vec<&[Frame]> = frames[..2729].chunks(1).collect();
         self.sound_one("the most voice blocks", sound(7, 4, &most_blocks));
         let mut blocks = sound_blocks(7, 5, &most_blocks);

@@ -114,6 +114,9 @@ mod tests {
     #[test]
     fn a_refused_recording_is_its_refusal_line() {
         assert_eq!(hear(&[]), b"refused 8 at 0\n");
+        assert_eq!(hear(&[1]), b"refused 9 at 0\n");
+        assert_eq!(hear(&[1, 0, 0, 0, 9, 0]), b"refused 10 at 0\n");
+        assert_eq!(hear(&[1, 0, 0, 0, 2, 0, 5]), b"refused 11 at 0 1\n");
         assert_eq!(hear(&[0; 65_537]), b"refused 1 at 65536\n");
     }
 }

@@ -80,7 +80,7 @@ fn answer(kind: u8, case: &[u8]) -> u64 {
 }
 
 /// The number of a refusal.
-fn refused(Refusal { number, tells }: Refusal) -> u64 {
+fn refused(Refusal { number, tells, .. }: Refusal) -> u64 {
     9_000_000_000_000_000_000 + 100_000 * u64::from(number) + u64::from(tells)
 }
 

@@ -53,12 +53,16 @@ pub fn last(out: &mut Vec<u8>, counts: &Counts) {
     out.push(b'\n');
 }
 
-/// The line of a refused recording: `refused N at P`, with P 65536 for refusal 1.
+/// The line of a refused recording: `refused N at P`, with P 65536 for refusal 1, and after it
+/// the size that refusal 11 tells.
 pub fn refused(refusal: Refusal) -> Vec<u8> {
     let place = if refusal.number == 1 {
         LONGEST as u32
     } else {
         refusal.tells
     };
-    format!("refused {} at {place}\n", refusal.number).into_bytes()
+    let mut out = format!("refused {} at {place}", refusal.number).into_bytes();
+    numbers(&mut out, refusal.size.map(i64::from));
+    out.push(b'\n');
+    out
 }

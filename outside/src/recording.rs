@@ -53,7 +53,8 @@ fn u32_at(bytes: &[u8], at: usize) -> u32 {
     u32::from_le_bytes([bytes[at], bytes[at + 1], bytes[at + 2], bytes[at + 3]])
 }
 
-/// Checks a recording block by block: refusal 1 of the whole, then on each block 7 before 8.
+/// Checks a recording block by block: refusal 1 of the whole, then on each block 9, 10, 11 and
+/// 8 in this order.
 pub fn read(recording: &[u8]) -> Result<Recording<'_>, Refusal> {
     if recording.len() > LONGEST {
         return Err(Refusal::LENGTH);
@@ -64,18 +65,17 @@ pub fn read(recording: &[u8]) -> Result<Recording<'_>, Refusal> {
     let mut at = 0;
     loop {
         let left = recording.len() - at;
-        let broken = Err(Refusal::new(7, at as u32));
-        let astray = Err(Refusal::new(8, at as u32));
+        let refused = |number| Err(Refusal::new(number, at as u32));
         if left == 0 {
-            return astray;
+            return refused(8);
         }
         if left < HEADER_LENGTH {
-            return broken;
+            return refused(9);
         }
         let length = u32_at(recording, at) as usize;
         let kind = u16::from_le_bytes([recording[at + 4], recording[at + 5]]);
         if length > left - HEADER_LENGTH {
-            return broken;
+            return refused(10);
         }
         let payload = &recording[at + HEADER_LENGTH..][..length];
         let size_wrong = match kind {
@@ -85,7 +85,7 @@ pub fn read(recording: &[u8]) -> Result<Recording<'_>, Refusal> {
             _ => false,
         };
         if size_wrong {
-            return broken;
+            return Err(Refusal::wrong_size(at as u32, length as u32));
         }
         let next = at + HEADER_LENGTH + length;
         match (kind, head) {
@@ -96,7 +96,7 @@ pub fn read(recording: &[u8]) -> Result<Recording<'_>, Refusal> {
             (VOICE, Some(_)) => frames += (length / FRAME_LENGTH) as u32,
             (END, Some((unit, number))) if frames > 0 => {
                 if u32_at(payload, 0) != frames {
-                    return astray;
+                    return refused(8);
                 }
                 if next != recording.len() {
                     return Err(Refusal::new(8, next as u32));
@@ -110,7 +110,7 @@ pub fn read(recording: &[u8]) -> Result<Recording<'_>, Refusal> {
                     voices_at,
                 });
             }
-            _ => return astray,
+            _ => return refused(8),
         }
         at = next;
     }

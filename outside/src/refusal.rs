@@ -1,15 +1,31 @@
 //! Refusals: what is refused gets a number, and with it the field, mark, subframe or place
-//! that the number tells of (0 where it tells nothing).
+//! that the number tells of (0 where it tells nothing); one number tells a size as well.
 
 #[derive(Clone, Copy, Debug, PartialEq, Eq)]
 pub struct Refusal {
     pub number: u8,
     pub tells: u32,
+    /// The payload's size, of refusal 11 alone.
+    pub size: Option<u32>,
 }
 
 impl Refusal {
+    /// A refusal that tells no size.
     pub const fn new(number: u8, tells: u32) -> Self {
-        Refusal { number, tells }
+        Refusal {
+            number,
+            tells,
+            size: None,
+        }
+    }
+
+    /// Refusal 11: the payload of the block at a place has a size wrong for its kind.
+    pub const fn wrong_size(at: u32, size: u32) -> Self {
+        Refusal {
+            number: 11,
+            tells: at,
+            size: Some(size),
+        }
     }
 
     /// Refusal 1: a buffer or recording of the wrong length.

@@ -7,50 +7,66 @@ use outside::refusal::Refusal;
 use outside::{hear, listing};
 use std::collections::BTreeSet;
 
-/// A second reader, over a list of blocks cut beforehand as far as they can be cut.
+/// The number in some bytes, the lowest first, if they are all there.
+fn number(bytes: &[u8], at: usize, count: usize) -> Option<u64> {
+    let part = bytes.get(at..at + count)?.iter().rev();
+    Some(part.fold(0, |sum, &byte| sum * 256 + u64::from(byte)))
+}
+
+/// All that is wrong with the first block that has anything wrong, in the order in which it is
+/// told; nothing of a sound recording.
+fn faults(bytes: &[u8]) -> Vec<Refusal> {
+    let (mut at, mut frames) = (0, 0);
+    let mut before = Vec::new(); // the kinds of the blocks before
+    loop {
+        let rest = &bytes[at..];
+        let place = at as u32;
+        let ended = before.contains(&3);
+        if ended || rest.is_empty() {
+            let wrong = ended != rest.is_empty();
+            let all = wrong.then_some(Refusal::new(8, place));
+            return all.into_iter().collect();
+        }
+        let length = number(rest, 0, 4);
+        let kind = number(rest, 4, 2);
+        let cut = rest.len() < 6;
+        let past = length.is_some_and(|length| 6 + length > rest.len() as u64);
+        let size_wrong = match (kind, length) {
+            (Some(1), Some(length)) => length != 8,
+            (Some(2), Some(length)) => length == 0 || !length.is_multiple_of(18),
+            (Some(3), Some(length)) => length != 4,
+            _ => false,
+        };
+        let astray = match kind {
+            Some(1) => !before.is_empty(),
+            Some(2) => before.is_empty(),
+            Some(3) => !before.contains(&2) || number(rest, 6, 4).is_some_and(|n| n != frames),
+            Some(_) => true,
+            None => false,
+        };
+        let size = length.unwrap_or(0);
+        let all = [
+            (cut, Refusal::new(9, place)),
+            (past, Refusal::new(10, place)),
+            (size_wrong, Refusal::wrong_size(place, size as u32)),
+            (astray, Refusal::new(8, place)),
+        ];
+        if all.iter().any(|(holds, _)| *holds) {
+            let holding = all.into_iter().filter(|(holds, _)| *holds);
+            return holding.map(|(_, refusal)| refusal).collect();
+        }
+        before.extend(kind);
+        frames += size / 18;
+        at += 6 + size as usize;
+    }
+}
+
+/// A second reader: the first of all that is wrong.
 fn second_reader(bytes: &[u8]) -> Option<Refusal> {
     if bytes.len() > 65_536 {
         return Some(Refusal::new(1, 0));
     }
-    let mut blocks: Vec<(u64, u64, u64)> = Vec::new(); // place, length, kind
-    let mut at = 0;
-    let total = bytes.len() as u64;
-    let le = |from: u64, count: u64| {
-        (from..from + count)
-            .rev()
-            .fold(0, |sum, at| sum * 256 + u64::from(bytes[at as usize]))
-    };
-    while at + 6 <= total && at + 6 + le(at, 4) <= total {
-        blocks.push((at, le(at, 4), le(at + 4, 2)));
-        at += 6 + le(at, 4);
-    }
-    let cut = at;
-    let mut frames = 0;
-    for (n, &(at, length, kind)) in blocks.iter().enumerate() {
-        let size_right = match kind {
-            1 => length == 8,
-            2 => length > 0 && length.is_multiple_of(18),
-            3 => length == 4,
-            _ => true,
-        };
-        if !size_right {
-            return Some(Refusal::new(7, at as u32));
-        }
-        let in_turn = match kind {
-            1 => n == 0,
-            2 => n > 0,
-            3 => n > 1,
-            _ => false,
-        };
-        if !in_turn || (kind == 3 && le(at + 6, 4) != frames) {
-            return Some(Refusal::new(8, at as u32));
-        }
-        frames += length / 18;
-        if kind == 3 {
-            return (at + 10 < total).then_some(Refusal::new(8, at as u32 + 10));
-        }
-    }
-    Some(Refusal::new(if cut == total { 8 } else { 7 }, cut as u32))
+    faults(bytes).first().copied()
 }
 
 #[test]
@@ -61,9 +77,14 @@ fn every_edge_gets_its_refusal() {
         assert!(names.insert(&edge.name), "{} twice", edge.name);
         assert_eq!(answer(&edge.bytes).err(), edge.refused, "{}", edge.name);
         assert_eq!(second_reader(&edge.bytes), edge.refused, "{}", edge.name);
-        if let Some(Refusal { number, tells }) = edge.refused {
-            let place = if number == 1 { 65_536 } else { tells };
-            let line = format!("refused {number} at {place}\n");
+        if let Some(refusal) = edge.refused {
+            let at = refusal.tells;
+            let line = match (refusal.number, refusal.size) {
+                (1, None) => "refused 1 at 65536\n".to_string(),
+                (number @ 8..=10, None) => format!("refused {number} at {at}\n"),
+                (11, Some(size)) => format!("refused 11 at {at} {size}\n"),
+                other => panic!("{} tells {other:?}", edge.name),
+            };
             assert_eq!(listing::list(&edge.bytes), line.as_bytes(), "{}", edge.name);
             assert_eq!(hear::hear(&edge.bytes), line.as_bytes(), "{}", edge.name);
             assert!(voice_block(&edge.bytes, 0).is_empty(), "{}", edge.name);
@@ -94,7 +115,7 @@ fn the_most_that_fits() {
 
 #[test]
 fn generated_recordings_are_refused_as_a_second_reader_says() {
-    let mut causes = BTreeSet::new();
+    let mut reached = BTreeSet::new();
     let mut refused = 0;
     for n in 0..6_000 {
         let bytes = cases::recording(99, n);
@@ -103,21 +124,15 @@ fn generated_recordings_are_refused_as_a_second_reader_says() {
         assert_eq!(answer.is_ok(), n % 2 == 1);
         if let Err(refusal) = answer {
             refused += 1;
-            causes.insert((refusal.number, refusal.tells.min(39)));
+            reached.insert((refusal.number, refusal.tells.min(39)));
         }
     }
     assert_eq!(refused, 3_000);
-    for cause in [
-        (7, 0),
-        (7, 14),
-        (7, 38),
-        (7, 39),
-        (8, 0),
-        (8, 14),
-        (8, 38),
-        (8, 39),
-    ] {
-        assert!(causes.contains(&cause), "no recording refused {cause:?}");
+    for number in 8..=11 {
+        for place in [0, 14, 38, 39] {
+            let cause = (number, place);
+            assert!(reached.contains(&cause), "no recording refused {cause:?}");
+        }
     }
 }
 
