@@ -294,6 +294,9 @@ pub fn edges() -> Vec<Edge> {
     edges.ends();
     edges.lengths();
     edges.limits();
+    edges.broken();
+    edges.in_a_row();
+    edges.told_sizes();
     edges.0
 }
 
@@ -819,6 +822,172 @@ impl Edges {
         let small: Vec<&[Frame]> = frames[..300].chunks(1).collect();
         self.sound_one("many small voice blocks", sound(7, 6, &small));
     }
+
+    /// Blocks that are out of turn or unknown, and second voices, each cut, past the end, of a
+    /// wrong size, and past the end with a wrong size.
+    fn broken(&mut self) {
+        for (place, before, kinds) in [
+            ("first", &[][..], [VOICE, END, 4]),
+            ("after the head", &[head()][..], [HEAD, END, 4]),
+            ("after voice", &[head(), voice()][..], [HEAD, VOICE, 4]),
+        ] {
+            let before = joined(before);
+            let at = before.len() as u32;
+            let after = |bytes: &[u8]| [&before[..], bytes].concat();
+            self.refused(format!("5 bytes of 255 {place}"), after(&[255; 5]), 9, at);
+            for kind in kinds {
+                let name = |what: &str| format!("kind {kind} {place}, {what}");
+                let size = match kind {
+                    HEAD => 8,
+                    VOICE => 18,
+                    END => 4,
+                    _ => 7,
+                };
+                let said = size as u32;
+                let whole = joined(&[Block::zeros(kind, size)]);
+                self.refused(name("cut"), after(&whole[..5]), 9, at);
+                let lacking = after(&whole[..whole.len() - 1]);
+                self.refused(name("past the end"), lacking, 10, at);
+                if kind <= END {
+                    let past = joined(&[Block::zeros(kind, size).saying(said + 1)]);
+                    self.refused(name("past the end, too large"), after(&past), 10, at);
+                    let small = joined(&[Block::zeros(kind, size - 1)]);
+                    self.wrong_size(name("too small"), after(&small), at, said - 1);
+                }
+            }
+        }
+        let past = joined(&[head().saying(9)]);
+        self.refused("head past the end, too large", past, 10, 0);
+        let past = joined(&[head(), voice(), Block::end(2).saying(5)]);
+        let name = "end past the end, too large, its number wrong";
+        self.refused(name, past, 10, AFTER_VOICE);
+    }
+
+    /// A refused block and then another: the first alone is told.
+    fn in_a_row(&mut self) {
+        let third = |block| vec![head(), voice(), block];
+        let later = [
+            ("a cut header", joined(&[voice()])[..5].to_vec()),
+            ("a voice past the end", joined(&[voice().saying(36)])),
+            ("a voice of 17", joined(&[Block::zeros(VOICE, 17)])),
+            ("a head", joined(&[head()])),
+        ];
+        for (name, blocks, refusal) in [
+            (
+                "head after voice",
+                third(head()),
+                Refusal::new(8, AFTER_VOICE),
+            ),
+            (
+                "end's number wrong",
+                third(Block::end(2)),
+                Refusal::new(8, AFTER_VOICE),
+            ),
+            ("the end", third(end()), Refusal::new(8, AFTER_END)),
+            (
+                "second voice of 35",
+                third(Block::zeros(VOICE, 35)),
+                Refusal::wrong_size(AFTER_VOICE, 35),
+            ),
+            (
+                "end of 3",
+                third(Block::zeros(END, 3)),
+                Refusal::wrong_size(AFTER_VOICE, 3),
+            ),
+        ] {
+            for (then, bytes) in &later {
+                let bytes = [&joined(&blocks)[..], bytes].concat();
+                self.add(format!("{name}, then {then}"), bytes, Some(refusal));
+            }
+        }
+        self.wrong_size(
+            "head of 9, then a voice of 17",
+            joined(&[Block::zeros(HEAD, 9), Block::zeros(VOICE, 17), end()]),
+            0,
+            9,
+        );
+        self.wrong_size(
+            "voice of 0, then an end of 5",
+            joined(&[head(), Block::zeros(VOICE, 0), Block::zeros(END, 5)]),
+            AFTER_HEAD,
+            0,
+        );
+        self.refused(
+            "voice past the end over a head",
+            joined(&[head(), voice().saying(36), head()]),
+            10,
+            AFTER_HEAD,
+        );
+    }
+
+    /// Ends of a wrong size whose number is right, and sizes and lengths at the limits.
+    fn told_sizes(&mut self) {
+        let bytes = joined(&[Block::zeros(HEAD, 12), voice(), end()]);
+        self.wrong_size("head of 12", bytes, 0, 12);
+        let mut long = end();
+        long.payload.resize(9, 0);
+        for size in [0, 3, 5, 8] {
+            let name = format!("end of {size}, its number right");
+            let mut bytes = joined(&[head(), voice(), long.clone().saying(size)]);
+            let more = format!("{name}, and bytes after it");
+            self.wrong_size(more, bytes.clone(), AFTER_VOICE, size);
+            if size > 0 {
+                bytes.truncate(bytes.len() - 9 + size as usize);
+                self.wrong_size(name, bytes, AFTER_VOICE, size);
+            }
+        }
+        for (n, at) in [0, AFTER_HEAD, AFTER_VOICE].into_iter().enumerate() {
+            let mut blocks = [head(), voice(), end()];
+            blocks[n].length += 65_536;
+            let name = format!("kind {} saying 65,536 more", blocks[n].kind);
+            self.refused(name, joined(&blocks), 10, at);
+        }
+        self.wrong_size(
+            "65,536 bytes, head size wrong",
+            joined(&[Block::zeros(HEAD, 65_530)]),
+            0,
+            65_530,
+        );
+        self.wrong_size(
+            "65,536 bytes, end size wrong",
+            joined(&[head(), voice(), Block::zeros(END, 65_492)]),
+            AFTER_VOICE,
+            65_492,
+        );
+        self.wrong_size(
+            "the most frames and a byte in one voice",
+            joined(&[head(), Block::zeros(VOICE, 65_503), Block::end(3639)]),
+            AFTER_HEAD,
+            65_503,
+        );
+        self.refused(
+            "65,536 bytes, head past the end",
+            joined(&[Block::zeros(HEAD, 65_530).saying(65_531)]),
+            10,
+            0,
+        );
+        self.refused(
+            "65,536 bytes, voice past the end",
+            joined(&[head(), Block::zeros(VOICE, 65_516).saying(65_520)]),
+            10,
+            AFTER_HEAD,
+        );
+        self.refused(
+            "the largest voice that fits first",
+            joined(&[Block::zeros(VOICE, 65_520)]),
+            8,
+            0,
+        );
+        self.refused(
+            "65,537 bytes, head size wrong",
+            joined(&[Block::zeros(HEAD, 65_531)]),
+            1,
+            0,
+        );
+        let mut cut = joined(&[head(), Block::zeros(VOICE, 65_466), voice(), voice()]);
+        cut.extend_from_slice(&[4, 0, 0]);
+        self.refused("65,537 bytes, header cut", cut, 1, 0);
+    }
 }
 
 /// One damage to the blocks of a recording.
@@ -988,6 +1157,7 @@ pub fn recording(seed: u64, n: u64) -> Vec<u8> {
 #[cfg(test)]
 mod tests {
     use super::*;
+    use std::collections::BTreeSet;
 
     #[test]
     fn the_generator_is_splitmix64() {
@@ -1013,6 +1183,22 @@ mod tests {
             refused[2] > 500 && refused[3] > 500 && refused[6] > 100,
             "{refused:?}"
         );
+    }
+
+    #[test]
+    fn damage_reaches_every_refusal_of_a_block() {
+        let mut refused = [0; 12];
+        let mut sizes = BTreeSet::new();
+        for seed in 0..400 {
+            for n in [0, 2, 4, 6, 8] {
+                let refusal = recording::read(&recording(seed, n)).unwrap_err();
+                refused[usize::from(refusal.number)] += 1;
+                sizes.extend(refusal.size);
+            }
+        }
+        assert_eq!(refused[8..].iter().sum::<u32>(), 2_000);
+        assert!(refused[8..].iter().all(|&n| n > 150), "{refused:?}");
+        assert!(sizes.len() > 20, "{sizes:?}");
     }
 
     #[test]

@@ -14,8 +14,8 @@ fn number(bytes: &[u8], at: usize, count: usize) -> Option<u64> {
 }
 
 /// All that is wrong with the first block that has anything wrong, in the order in which it is
-/// told; nothing of a sound recording.
-fn faults(bytes: &[u8]) -> Vec<Refusal> {
+/// told, with the block's kind if it is there; nothing of a sound recording.
+fn faults(bytes: &[u8]) -> (Option<u64>, Vec<Refusal>) {
     let (mut at, mut frames) = (0, 0);
     let mut before = Vec::new(); // the kinds of the blocks before
     loop {
@@ -25,7 +25,7 @@ fn faults(bytes: &[u8]) -> Vec<Refusal> {
         if ended || rest.is_empty() {
             let wrong = ended != rest.is_empty();
             let all = wrong.then_some(Refusal::new(8, place));
-            return all.into_iter().collect();
+            return (None, all.into_iter().collect());
         }
         let length = number(rest, 0, 4);
         let kind = number(rest, 4, 2);
@@ -53,7 +53,7 @@ fn faults(bytes: &[u8]) -> Vec<Refusal> {
         ];
         if all.iter().any(|(holds, _)| *holds) {
             let holding = all.into_iter().filter(|(holds, _)| *holds);
-            return holding.map(|(_, refusal)| refusal).collect();
+            return (kind, holding.map(|(_, refusal)| refusal).collect());
         }
         before.extend(kind);
         frames += size / 18;
@@ -66,7 +66,17 @@ fn second_reader(bytes: &[u8]) -> Option<Refusal> {
     if bytes.len() > 65_536 {
         return Some(Refusal::new(1, 0));
     }
-    faults(bytes).first().copied()
+    faults(bytes).1.first().copied()
+}
+
+/// Where a recording is refused, the kind of the block there (4 for each unknown one), and the
+/// numbers of all that is wrong with it.
+fn causes(bytes: &[u8]) -> (u32, Option<u64>, Vec<u8>) {
+    let (kind, all) = faults(bytes);
+    let place = all.first().map_or(0, |refusal| refusal.tells);
+    let kind = kind.map(|kind| if (1..=3).contains(&kind) { kind } else { 4 });
+    let numbers = all.iter().map(|refusal| refusal.number);
+    (place, kind, numbers.collect())
 }
 
 #[test]
@@ -93,6 +103,64 @@ fn every_edge_gets_its_refusal() {
     let lengths: BTreeSet<usize> = edges.iter().map(|edge| edge.bytes.len()).collect();
     for length in [0, 5, 6, 65_532, 65_536, 65_537] {
         assert!(lengths.contains(&length), "no edge of {length} bytes");
+    }
+}
+
+/// A block of each kind and of many lengths at each place of a small recording, with any number
+/// of bytes there.
+fn made_up() -> Vec<Vec<u8>> {
+    let sound = cases::sound(7, 1, &[&[[0; 18]]]);
+    let mut all = Vec::new();
+    for at in [0, 14, 38, 48] {
+        for kind in [0, 1, 2, 3, 4, 256, 65_535u16] {
+            for length in (0..40).chain([65_544, 1 << 31, u32::MAX]) {
+                for number in [0, 1u32] {
+                    let mut bytes = sound[..at].to_vec();
+                    bytes.extend(length.to_le_bytes());
+                    bytes.extend(kind.to_le_bytes());
+                    bytes.extend(number.to_le_bytes());
+                    bytes.resize(at + 48, 0);
+                    all.extend((at..bytes.len()).map(|end| bytes[..end].to_vec()));
+                }
+            }
+        }
+    }
+    all
+}
+
+#[test]
+fn made_up_blocks_are_refused_as_a_second_reader_says() {
+    let mut reached = BTreeSet::new();
+    for bytes in made_up() {
+        assert_eq!(
+            recording::read(&bytes).err(),
+            second_reader(&bytes),
+            "{bytes:?}"
+        );
+        reached.insert(causes(&bytes));
+    }
+    let together: BTreeSet<&[u8]> = reached.iter().map(|(_, _, numbers)| &numbers[..]).collect();
+    let all: [&[u8]; 10] = [
+        &[],
+        &[8],
+        &[9],
+        &[9, 10],
+        &[10],
+        &[10, 8],
+        &[10, 11],
+        &[10, 11, 8],
+        &[11],
+        &[11, 8],
+    ];
+    assert_eq!(together, BTreeSet::from(all));
+    // The edges have all that can be wrong at each place of a small recording.
+    let mut edges = cases::edges();
+    edges.retain(|edge| edge.bytes.len() <= 65_536);
+    let named: BTreeSet<_> = edges.iter().map(|edge| causes(&edge.bytes)).collect();
+    for wrong in reached {
+        if [0, 14, 38, 48].contains(&wrong.0) {
+            assert!(named.contains(&wrong), "no edge has {wrong:?}");
+        }
     }
 }
 
