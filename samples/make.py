@@ -106,6 +106,8 @@ RECORDINGS = {
     "dropped": (HEAD + VOICE + END)[:44],
     "bad-length": HEAD + voice(ZERO, HIT, length=100) + END,
     "wrong-size": HEAD + voice((ZERO + HIT)[:35]) + END,
+    "empty-voice": HEAD + voice() + END,
+    "long-head": block(1, number(7) + number(1) + b"\0") + VOICE + END,
     "unknown-kind": HEAD + block(4, ZERO + HIT) + END,
     "out-of-turn": HEAD + HEAD + VOICE + END,
     "no-end": HEAD + VOICE,
