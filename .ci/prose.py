@@ -26,8 +26,8 @@ MANUAL = ["host/*.1", "host/*.3"]
 NAMING = ["README.md", "docs/HANDBOOK.md", "docs/CHANGING.md", "samples/README.md"]
 SHOWING = ["README.md", "docs/HANDBOOK.md", "samples/README.md", "host/oatlantern-list.1", "host/oatlantern-decode.1"]
 NOT_RUN = re.compile(r"rt |\.ci/run|cargo |make |cc |git |samples/make\.py |\.ci/prose\.py|python3 ")
-RUN = re.compile(r"(\./run target/\S+|oatlantern-\w+|head|sed -n|cut|tail|od|cmp|diff|printf|echo)\b")
-LISTING = re.compile(r"unit \d+ recording \d+ frames \d+|\d+ \d+ (refused \d+|\d+ [01]( \d+){4})|repaired \d+ breaks \d+|refused \d+ at \d+"
+RUN = re.compile(r"(\./run target/\S+|oatlantern-\w+|head|sed -n|cut|tail|od|wc|cmp|diff|printf|echo)\b")
+LISTING = re.compile(r"unit \d+ recording \d+ frames \d+|\d+ \d+ (refused \d+|\d+ [01]( \d+){4})|repaired \d+ breaks \d+|refused \d+ at \d+( \d+)?"
                      r"|frame \d+( \d+){28} .*")
 independent = Path(sys.argv[2]).resolve() if sys.argv[1:2] == ["--with"] else None
 cases, faults = 0, []
@@ -152,7 +152,7 @@ for path in SHOWING:
     hold(path in showing, path, 1, "shows no listing that could be compared")
 for path in pages(PAGES) + pages(MANUAL):
     for n, line in lines_of(path):
-        for said in re.findall(r"refused \d+ at \d+", line):
+        for said in re.findall(r"refused \d+ at \d+(?: \d+)?", line):
             hold(said in printed, path, n, f"`{said}`: no recording of samples/ and no command on a page prints that")
         for number in re.findall(r"\brefused (\d+)\b", line):
             hold(any(int(number) in numbers for numbers in REFUSALS.values()), path, n, f"there is no refusal {number}")

@@ -34,7 +34,7 @@ from pathlib import Path
 
 from sources import CRATES, ROOT, Sources, below, changed, edits
 
-RECORDINGS, SEED = 300, 1
+RECORDINGS, SEED = 400, 1
 WAYS = {"-O0": "the native program at -O0", "-O3": "the native program at -O3", "checked": "the native program with LLVM's assumptions checked"}
 ELSE, ENDLESS, STOPPED = "prints something else", "does not end", "is stopped"
 
