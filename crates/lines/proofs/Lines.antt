@@ -60,17 +60,32 @@ refusal-spaced number shown =
     ∙ ap (λ (l : List ℕ). (ascii "refused " ++ decimal number ++ ascii " at") ++ l) (spaced-out shown (ascii "\n"))
     ∙ append-assoc (ascii "refused " ++ decimal number) (ascii " at") (spaced shown (ascii "\n"))
 
+-- with a place
+pub place-line : (number place : ℕ)
+    → refusalLine number (place ∷ [])
+    ≡ ascii "refused " ++ (decimal number ++ (ascii " at " ++ (decimal place ++ ascii "\n")))
+unfolding spaced
+place-line number place = refusal-spaced number (place ∷ [])
+
+-- with a place and a size
+pub size-line : (number place size : ℕ)
+    → refusalLine number (place ∷ size ∷ [])
+    ≡ ascii "refused "
+    ++ (decimal number ++ (ascii " at " ++ (decimal place ++ (ascii " " ++ (decimal size ++ ascii "\n")))))
+unfolding spaced
+size-line number place size = refusal-spaced number (place ∷ size ∷ [])
+
 -- the return of `refusal_at`
 pub place-text : (number place : ℕ) → filledIn (two number place) (ascii "refused \0 at \u{1}\n")
     ≡ refusalLine number (place ∷ [])
-unfolding filledIn spaced
-place-text number place = sym (refusal-spaced number (place ∷ []))
+unfolding filledIn
+place-text number place = sym (place-line number place)
 
 -- the return of `refusal_with_size`
 pub size-text : (number place size : ℕ) → filledIn (three number place size) (ascii "refused \0 at \u{1} \u{2}\n")
     ≡ refusalLine number (place ∷ size ∷ [])
-unfolding filledIn spaced
-size-text number place size = sym (refusal-spaced number (place ∷ size ∷ []))
+unfolding filledIn
+size-text number place size = sym (size-line number place size)
 
 -- the returns of `refusal`: what is told is one of its cases
 pub shows-told : (number : ℕ) (t : Told) {u : Told} (f : Form) → t ≡ u → Shows f (refusalLine number (numbersShown u))

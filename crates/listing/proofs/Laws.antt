@@ -2,14 +2,23 @@
 -- Assumes nothing.
 use mathlib.Core.Path.{_≡_, _∙_, sym, refl, ap}
 use mathlib.Core.Bool.{Bool, true, false, cond}
-use mathlib.Core.List.{List, _++_}
+use mathlib.Core.List.{List, _++_, append-assoc}
 use Prim.Native.Nat.{ℕ, _≤_}
 use native.Mathlib.Omega.{arith}
 use borrow.Author.Tests.{eq-eqb, ne-eqb, eqb-true}
 use lib.Dec.{eqb}
 use lib.ListN.{length, drop, length-append}
-use Rattle.listing.specs.Listing.{listingOf, room, listedOf, listingLeft, refusalOf}
-use Rattle.listing.specs.Promised.{ListingStands, RefusedListingStays}
+use Rattle.text.specs.Ascii.{ascii}
+use Rattle.text.specs.Decimal.{decimal, digitsIn}
+use Rattle.blocks.specs.Walk.{walkedOf}
+use Rattle.blocks.specs.Frames.{framesOf}
+use Rattle.blocks.specs.declared.Cause.{Cause}
+use Rattle.blocks.specs.declared.Ending.{Ending}
+use Rattle.blocks.specs.declared.Ending.the-variants.{Refused}
+use Rattle.lines.specs.Lines.{refusedLine}
+use Rattle.lines.proofs.Lines.{place-line, size-line}
+use Rattle.listing.specs.Listing.{soundText, textBy, listingOf, room, listedOf, listingLeft, refusalOf}
+use Rattle.listing.specs.Promised.{ListingStands, FaultsListed, RefusedListingStays}
 use Rattle.listing.specs.declared.Listed.the-variants.{Text, WrongLength}
 
 -- a text is answered only for a buffer that has room for it, and its length is the listing's
@@ -33,6 +42,25 @@ unfolding ListingStands
 listing-stands s o m e =
     let t = text-answered s (length o) m e in
     (t .1, text-left s o (t .0) ∙ ap (λ (n : ℕ). listingOf s ++ drop n o) (sym (t .1)))
+
+-- the listing of a refused recording is the line of its cause
+refused-listed : (s : List ℕ) (c : Cause) → walkedOf s .ending ≡ Refused c → listingOf s ≡ refusedLine c
+unfolding listingOf
+refused-listed s c e = ap (λ (x : Ending). textBy x (soundText (walkedOf s .walk) (framesOf s))) e
+
+-- so of each cause that a block's own bytes have
+pub faults-listed : FaultsListed
+unfolding FaultsListed refusedLine decimal digitsIn
+faults-listed s p size = (
+  λ e. refused-listed s _ e ∙ place-line 9 p ∙ sym (append-assoc (ascii "refused 9 at ") (decimal p) (ascii "\n")),
+  λ e. refused-listed s _ e ∙ place-line 10 p ∙ sym (append-assoc (ascii "refused 10 at ") (decimal p) (ascii "\n")),
+  λ e.
+      let front = ascii "refused 11 at " ++ decimal p in
+      refused-listed s _ e ∙ size-line 11 p size
+      ∙ sym (append-assoc (ascii "refused 11 at ") (decimal p) (ascii " " ++ (decimal size ++ ascii "\n")))
+      ∙ sym (append-assoc front (ascii " ") (decimal size ++ ascii "\n"))
+      ∙ sym (append-assoc (front ++ ascii " ") (decimal size) (ascii "\n")),
+)
 
 -- a buffer of any other length is refused, and stays
 pub refused-listing-stays : RefusedListingStays

@@ -4,6 +4,11 @@ use mathlib.Core.List.{List, _++_}
 use mathlib.Core.Logic.{_↔_}
 use Prim.Native.Nat.{ℕ, _<_, _≤_}
 use lib.ListN.{length, getD, drop}
+use Rattle.text.specs.Ascii.{ascii}
+use Rattle.text.specs.Decimal.{decimal}
+use Rattle.blocks.specs.Walk.{walkedOf}
+use Rattle.blocks.specs.declared.Cause.the-variants.{HeaderCut, PastEnd, WrongSize}
+use Rattle.blocks.specs.declared.Ending.the-variants.{Refused}
 use Rattle.listing.specs.Listing.{room, listingOf, listedOf, listingLeft, refusalOf}
 use Rattle.listing.specs.declared.Listed.the-variants.{Text}
 
@@ -16,6 +21,15 @@ unfoldable pub ListingStands : Type 0
 ListingStands =
     (s o : List ℕ) (m : ℕ) → listedOf s (length o) ≡ Text m
     → (m ≡ length (listingOf s)) × (listingLeft s o ≡ listingOf s ++ drop m o)
+
+-- what is wrong with a block is the whole listing, and with 11 the payload size follows the place (document 02, K1)
+unfoldable pub FaultsListed : Type 0
+FaultsListed =
+    (s : List ℕ) (p size : ℕ)
+    → (walkedOf s .ending ≡ Refused (HeaderCut p) → listingOf s ≡ ascii "refused 9 at " ++ decimal p ++ ascii "\n")
+    × (walkedOf s .ending ≡ Refused (PastEnd p) → listingOf s ≡ ascii "refused 10 at " ++ decimal p ++ ascii "\n")
+    × (walkedOf s .ending ≡ Refused (WrongSize p size)
+    → listingOf s ≡ ascii "refused 11 at " ++ decimal p ++ ascii " " ++ decimal size ++ ascii "\n")
 
 -- a buffer of any other length is refused (1) and stays as it was
 unfoldable pub RefusedListingStays : Type 0

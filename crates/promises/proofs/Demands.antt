@@ -49,6 +49,7 @@ demand-one =
       sound-exactly = rule.sound-exactly;
       numbers-in-turn = rule.numbers-in-turn;
       block-faults-told = rule.block-faults-told;
+      faults-listed = listing.faults-listed;
       refused-has-none = parts.refused-has-none;
       empty-refused = parts.empty-refused;
       refused-listing-stays = listing.refused-listing-stays;

@@ -1,7 +1,7 @@
 -- The three demands, in the words of the person this is built for, and under each the statements that meet it. A
 -- reviewer starts here:
 -- each name below is a statement of the file beside it, and proofs/Demands.antt holds a proof of every one.
-use Rattle.listing.specs.Promised.{ListingFits, ListingStands, RefusedListingStays}
+use Rattle.listing.specs.Promised.{ListingFits, ListingStands, FaultsListed, RefusedListingStays}
 use Rattle.promises.specs.Frames.{ReadsBack, SameBits, DamageAlone, OneMended, TwoReported, EveryFrameRead}
 use Rattle.promises.specs.Frames.{OneFrame, SixteenFrames}
 use Rattle.promises.specs.Functions.{WriteThenRead, ReadThenWrite, RepairByDamage, OneFlip, TwoFlips, NoTwoFrames}
@@ -68,6 +68,7 @@ pub record DemandOne : Type 0 where
   pub sound-exactly : SoundExactly
   pub numbers-in-turn : NumbersInTurn
   pub block-faults-told : BlockFaultsTold
+  pub faults-listed : FaultsListed
   pub refused-has-none : RefusedHasNone
   pub empty-refused : EmptyRefused
   pub refused-listing-stays : RefusedListingStays
