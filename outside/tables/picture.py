@@ -154,8 +154,9 @@ def recording():
     y += 40
     parts.append(text(432, y, "The place that a refusal tells", 16, weight="bold"))
     y += 14
-    rows = [("dropped", "the upload stopped inside the voice block"), ("bad-length", "the voice block says that it is 100 bytes long"),
-            ("wrong-size", "the voice block is 35 bytes long: no whole frames"), ("cut", "the upload stopped inside the end block's header"),
+    rows = [("cut", "the upload stopped inside the end block's header"), ("dropped", "the upload stopped inside the voice block"),
+            ("bad-length", "the voice block says that it is 100 bytes long"), ("wrong-size", "the voice block is 35 bytes long: no whole frames"),
+            ("empty-voice", "the voice block has no frame: 0 bytes"), ("long-head", "the head is 9 bytes long: one too many"),
             ("unknown-kind", "there is no kind 4"), ("out-of-turn", "a second head"), ("wrong-count", "the end says 3 frames; there are 2"),
             ("no-end", "the end is missing: P is the file's length"), ("after-the-end", "a byte too many: P is its place"),
             ("empty", "no bytes at all: the end is missing")]
@@ -163,7 +164,7 @@ def recording():
     for name, words in rows:
         damaged = (SAMPLES / f"{name}.rec").read_bytes()
         line = (SAMPLES / f"{name}.list").read_text(encoding="utf-8").strip()
-        place = int(line.rsplit(" ", 1)[1])
+        place = int(line.split(" ")[3])
         parts.append(text(left - 12, y + 26, name, 11, "end"))
         for first, last in passed(damaged, place):
             parts.append(box(left + first * scale, y + 12, (last + 1 - first) * scale, 20, "#d9ecc8"))

@@ -5,9 +5,11 @@ use mathlib.Core.List.{List, [], _∷_, _++_, append-assoc, append-nil}
 use Prim.Native.Nat.{ℕ}
 use borrow.Author.Tests.{eq-eqb, ne-eqb}
 use Rattle.blocks.specs.Refusals.{refusalOf, toldOf}
+use Rattle.blocks.specs.Walk.{longest}
 use Rattle.blocks.specs.declared.Cause.{Cause}
 use Rattle.blocks.specs.declared.Heading.{Heading}
 use Rattle.blocks.specs.declared.Told.{Told}
+use Rattle.blocks.specs.declared.Told.the-variants.{Nothing}
 use Rattle.text.specs.Ascii.{ascii}
 use Rattle.text.specs.Decimal.{decimal}
 use Rattle.lines.specs.Lines.{pairLine, headLine, fields, restOf, frameLine, lastLine, numbersShown}
@@ -91,6 +93,11 @@ size-text number place size = sym (size-line number place size)
 pub shows-told : (number : ℕ) (t : Told) {u : Told} (f : Form) → t ≡ u → Shows f (refusalLine number (numbersShown u))
     → Shows f (refusalLine number (numbersShown t))
 shows-told number t f e s = (s .0, s .1 ∙ ap (λ (u : Told). refusalLine number (numbersShown u)) (sym e))
+
+-- where nothing is told, the longest length of a recording is shown
+pub shows-longest : (number : ℕ) (t : Told) {place : ℕ} (f : Form) → t ≡ Nothing → place ≡ longest
+    → Shows f (refusalLine number (place ∷ [])) → Shows f (refusalLine number (numbersShown t))
+shows-longest number t f e l s = shows-told number t f e (rw (sym l) s)
 
 -- the return of `refused`
 pub shows-refused : (cause : Cause) {number : ℕ} {t : Told} (f : Form) → number ≡ refusalOf cause → t ≡ toldOf cause

@@ -1,10 +1,11 @@
+use native.Mathlib.Omega.{arith}
 use borrow.Author.Needs.{needs}
-use Rattle.lines.proofs.Lines.{shows-told}
+use Rattle.lines.proofs.Lines.{shows-told, shows-longest}
 use Rattle.lines.proofs.refusal.Statement.{statement}
 use Rattle.lines.proofs.refusal.Tie as tie
 
 returns : tie.Need-returns
-returns c = shows-told _ _ _ (c .before .enum-told .given .1) (c .refusal-at .ensures)
+returns c = shows-longest _ _ _ (c .before .enum-told .given .1) (omega arith) (c .refusal-at .ensures)
 
 returns-2 : tie.Need-returns-2
 returns-2 c = shows-told _ _ _ (c .before .before .told .given .1) (c .refusal-at2 .ensures)
