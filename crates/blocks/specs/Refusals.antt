@@ -23,7 +23,7 @@ refusalOf (EndMissing p) = 8
 refusalOf (WrongCount p) = 8
 refusalOf (Extra p) = 8
 
--- the place stays, and for the last the payload size is told too (K1)
+-- a place, and with 11 the payload size too (K1)
 abbrev pub toldOf : Cause → Told
 toldOf TooLong = Nothing
 toldOf (HeaderCut p) = Place p
