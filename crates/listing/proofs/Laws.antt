@@ -12,9 +12,7 @@ use Rattle.text.specs.Ascii.{ascii}
 use Rattle.text.specs.Decimal.{decimal, digitsIn}
 use Rattle.blocks.specs.Walk.{walkedOf}
 use Rattle.blocks.specs.Frames.{framesOf}
-use Rattle.blocks.specs.declared.Cause.{Cause}
 use Rattle.blocks.specs.declared.Ending.{Ending}
-use Rattle.blocks.specs.declared.Ending.the-variants.{Refused}
 use Rattle.lines.specs.Lines.{refusedLine}
 use Rattle.lines.proofs.Lines.{place-line, size-line}
 use Rattle.listing.specs.Listing.{soundText, textBy, listingOf, room, listedOf, listingLeft, refusalOf}
@@ -43,20 +41,21 @@ listing-stands s o m e =
     let t = text-answered s (length o) m e in
     (t .1, text-left s o (t .0) ∙ ap (λ (n : ℕ). listingOf s ++ drop n o) (sym (t .1)))
 
--- the listing of a refused recording is the line of its cause
-refused-listed : (s : List ℕ) (c : Cause) → walkedOf s .ending ≡ Refused c → listingOf s ≡ refusedLine c
+-- the listing by how the walk ends: of a refused recording it is the line of its cause
+pub listing-by : (s : List ℕ) (e : Ending) → walkedOf s .ending ≡ e
+    → listingOf s ≡ textBy e (soundText (walkedOf s .walk) (framesOf s))
 unfolding listingOf
-refused-listed s c e = ap (λ (x : Ending). textBy x (soundText (walkedOf s .walk) (framesOf s))) e
+listing-by s e ends = ap (λ (x : Ending). textBy x (soundText (walkedOf s .walk) (framesOf s))) ends
 
 -- so of each cause that a block's own bytes have
 pub faults-listed : FaultsListed
 unfolding FaultsListed refusedLine decimal digitsIn
 faults-listed s p size = (
-  λ e. refused-listed s _ e ∙ place-line 9 p ∙ sym (append-assoc (ascii "refused 9 at ") (decimal p) (ascii "\n")),
-  λ e. refused-listed s _ e ∙ place-line 10 p ∙ sym (append-assoc (ascii "refused 10 at ") (decimal p) (ascii "\n")),
+  λ e. listing-by s _ e ∙ place-line 9 p ∙ sym (append-assoc (ascii "refused 9 at ") (decimal p) (ascii "\n")),
+  λ e. listing-by s _ e ∙ place-line 10 p ∙ sym (append-assoc (ascii "refused 10 at ") (decimal p) (ascii "\n")),
   λ e.
       let front = ascii "refused 11 at " ++ decimal p in
-      refused-listed s _ e ∙ size-line 11 p size
+      listing-by s _ e ∙ size-line 11 p size
       ∙ sym (append-assoc (ascii "refused 11 at ") (decimal p) (ascii " " ++ (decimal size ++ ascii "\n")))
       ∙ sym (append-assoc front (ascii " ") (decimal size ++ ascii "\n"))
       ∙ sym (append-assoc (front ++ ascii " ") (decimal size) (ascii "\n")),

@@ -26,6 +26,7 @@ use Rattle.listing.specs.Listing.{headOf, bodyOf, soundText, textBy, lis
 use Rattle.listing.specs.Promised.{ListingFits}
 use Rattle.listing.specs.declared.Listed.{Listed}
 use Rattle.listing.specs.declared.Listed.the-variants.{Text, WrongLength}
+use Rattle.listing.proofs.Laws.{listing-by}
 use Rattle.listing.proofs.Short.{listing-fits}
 
 -- what is answered, and what the buffer holds then
@@ -60,10 +61,9 @@ module _ (s o : List ℕ) (bytes : (i : ℕ) → getD s i 0 < 256) (long : lengt
 
   module _ {w : Walked} (is : w ≡ walkedOf s) where
     text-is : (e : Ending) → w .ending ≡ e → textBy e (soundText (w .walk) (framesOf s)) ≡ listingOf s
-    unfolding listingOf
     text-is e ends =
-        ap (λ (x : Ending). textBy x (soundText (w .walk) (framesOf s))) (sym ends)
-        ∙ ap (λ (x : Walked). textBy (x .ending) (soundText (x .walk) (framesOf s))) is
+        ap (λ (x : Walked). textBy e (soundText (x .walk) (framesOf s))) is
+        ∙ sym (listing-by s e (sym (ap (λ (x : Walked). x .ending) is) ∙ ends))
 
     -- a refused recording
     pub listed-refused : {cause : Cause} → w .ending ≡ Refused cause → {end : ℕ} {o′ : List ℕ}
