@@ -1,0 +1,5 @@
+pub mod First
+pub mod Most
+pub mod Keeps
+pub mod Returns
+pub mod Plans

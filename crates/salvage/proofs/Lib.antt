@@ -1,0 +1,3 @@
+pub mod Returns
+pub mod Puts
+pub mod Results

@@ -1,0 +1,2 @@
+pub mod Salvaging
+pub mod Steps
