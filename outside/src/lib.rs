@@ -16,6 +16,7 @@ pub mod lsp;
 
 pub mod recording;
 pub mod refusal;
+pub mod salvage;
 pub mod tables;
 pub mod text;
 pub mod values;

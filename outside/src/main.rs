@@ -1,13 +1,13 @@
-//! The command line over the library: tables, numbers, listings, hearings and cases.
+//! The command line over the library: tables, numbers, listings, hearings, salvaging and cases.
 
-use outside::{cases, exchange, hear, leaves, listing, recording, tables};
+use outside::{cases, exchange, hear, leaves, listing, recording, salvage, tables};
 use std::fs;
 use std::io::{self, Read, Write};
-use std::path::Path;
+use std::path::{Path, PathBuf};
 use std::process::ExitCode;
 
 const USAGE: &str =
-    "usage: outside tables | sample | list | hear | recording SEED N | recordings DIR N SEED | leaves | leaf-cases [KIND MORE SEED] | windows DIR | exchange | exchange-cases";
+    "usage: outside tables | sample | list | hear | salvage | recording SEED N | recordings DIR N SEED | leaves | leaf-cases [KIND MORE SEED] | windows DIR | exchange | exchange-cases";
 
 /// Recordings longer than this get no `.hear` file.
 const LONGEST_HEARD: usize = 20_000;
@@ -29,6 +29,7 @@ fn main() -> ExitCode {
         ["sample"] => print(&cases::sample()),
         ["list"] => input().and_then(|recording| print(&listing::list(&recording))),
         ["hear"] => input().and_then(|recording| print(&hear::hear(&recording))),
+        ["salvage"] => input().and_then(|recording| print_salvaged(&recording)),
         ["recording", seed, n] => match (seed.parse(), n.parse()) {
             (Ok(seed), Ok(n)) => print(&cases::recording(seed, n)),
             _ => return usage(),
@@ -59,6 +60,13 @@ fn print(bytes: &[u8]) -> io::Result<()> {
     out.flush()
 }
 
+/// Prints the salvaged recording, and the changes on standard error.
+fn print_salvaged(recording: &[u8]) -> io::Result<()> {
+    let salvaged = salvage::salvage(recording);
+    print(salvage::written(recording, &salvaged))?;
+    io::stderr().write_all(salvage::changes(&salvaged).as_bytes())
+}
+
 /// Standard input, as far as one byte past the longest recording.
 fn input() -> io::Result<Vec<u8>> {
     let mut bytes = Vec::with_capacity(recording::LONGEST + 1);
@@ -85,7 +93,22 @@ fn windows(folder: &Path) -> io::Result<()> {
     Ok(())
 }
 
-/// Writes recordings with their listings and what is heard in them: the edges first.
+/// The file of a recording by its number.
+fn file(folder: &Path, n: usize, ending: &str) -> PathBuf {
+    folder.join(format!("{n:05}.{ending}"))
+}
+
+/// Writes a recording, what is salvaged of it and the changes.
+fn write_salvaged(folder: &Path, n: usize, recording: &[u8]) -> io::Result<()> {
+    let salvaged = salvage::salvage(recording);
+    fs::write(file(folder, n, "rec"), recording)?;
+    let written = salvage::written(recording, &salvaged);
+    fs::write(file(folder, n, "salvaged"), written)?;
+    fs::write(file(folder, n, "changes"), salvage::changes(&salvaged))
+}
+
+/// Writes recordings with their listings, what is heard in them and what is salvaged of them: the
+/// edges first.
 fn recordings(folder: &Path, count: usize, seed: u64) -> io::Result<()> {
     fs::create_dir_all(folder)?;
     let mut edges = cases::edges().into_iter();
@@ -94,11 +117,10 @@ fn recordings(folder: &Path, count: usize, seed: u64) -> io::Result<()> {
             Some(edge) => edge.bytes,
             None => cases::recording(seed, n as u64),
         };
-        let file = |ending: &str| folder.join(format!("{n:05}.{ending}"));
-        fs::write(file("rec"), &bytes)?;
-        fs::write(file("list"), listing::list(&bytes))?;
+        write_salvaged(folder, n, &bytes)?;
+        fs::write(file(folder, n, "list"), listing::list(&bytes))?;
         if bytes.len() <= LONGEST_HEARD {
-            fs::write(file("hear"), hear::hear(&bytes))?;
+            fs::write(file(folder, n, "hear"), hear::hear(&bytes))?;
         }
     }
     Ok(())

@@ -49,7 +49,8 @@ pub struct Heard {
     pub values: Result<Values, Refusal>,
 }
 
-fn u32_at(bytes: &[u8], at: usize) -> u32 {
+/// The number in four bytes, the lowest first.
+pub fn u32_at(bytes: &[u8], at: usize) -> u32 {
     u32::from_le_bytes([bytes[at], bytes[at + 1], bytes[at + 2], bytes[at + 3]])
 }
 
