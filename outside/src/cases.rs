@@ -36,7 +36,7 @@ impl Generator {
         (self.next() % n as u64) as usize
     }
 
-    fn one_of<T: Copy>(&mut self, all: &[T]) -> T {
+    pub fn one_of<T: Copy>(&mut self, all: &[T]) -> T {
         all[self.below(all.len())]
     }
 
@@ -275,6 +275,17 @@ pub fn sample() -> Vec<u8> {
     sound(7, 1, &[&[[0; FRAME_LENGTH], second]])
 }
 
+/// Frames that the writer makes, each of its own, with SY 0, 1, 0 and so on.
+pub fn spoken(seed: u64, count: usize) -> Vec<Frame> {
+    let mut g = Generator::new(seed);
+    let mut written = |k| {
+        let mut record = g.record();
+        record.fields[27] = (k % 2) as u16;
+        frame::lay(&record)
+    };
+    (0..count).map(&mut written).collect()
+}
+
 /// A recording at an edge, with the refusal it must get, or none.
 #[derive(Clone, Debug)]
 pub struct Edge {
@@ -297,6 +308,12 @@ pub fn edges() -> Vec<Edge> {
     edges.broken();
     edges.in_a_row();
     edges.told_sizes();
+    edges.after_voices();
+    edges.frames_left();
+    edges.wild_lengths();
+    edges.few_at_the_limit();
+    edges.many_at_the_limit();
+    edges.wild_at_the_limit();
     edges.0
 }
 
@@ -988,6 +1005,284 @@ impl Edges {
         cut.extend_from_slice(&[4, 0, 0]);
         self.refused("65,537 bytes, header cut", cut, 1, 0);
     }
+
+    /// Each cause of a refusal after the head and 0, 1 or 2 voice blocks, with good blocks after
+    /// it where they can follow.
+    fn after_voices(&mut self) {
+        let frames = spoken(12, 7);
+        let good = [Block::voice(&frames[5..]), Block::end(2)];
+        for count in 0..=2 {
+            let before = before_the_refusal(count, &frames);
+            let at = before.len() as u32;
+            let heard = [0, 2, 3][count];
+            let name = |what: &str| format!("after {count} voices, {what}");
+            let after = |blocks: &[Block]| [&before[..], &joined(blocks)].concat();
+            let then_good = |block: Block| after(&[&[block], &good[..]].concat());
+            let two_frames = |kind| Block::new(kind, frames[3..5].concat());
+
+            self.refused(name("the end missing"), before.clone(), 8, at);
+            for length in [1, 5] {
+                let mut bytes = after(&[two_frames(VOICE)]);
+                bytes.truncate(before.len() + length);
+                self.refused(name(&format!("{length} bytes of a header")), bytes, 9, at);
+            }
+            for (what, kind) in [("a head", HEAD), ("an end", END), ("kind 4", 4)] {
+                let bytes = after(&[two_frames(kind).saying(54)]);
+                self.refused(name(&format!("{what} past the end")), bytes, 10, at);
+            }
+            for (what, kind, size) in [
+                ("a head", HEAD, 9),
+                ("a voice", VOICE, 0),
+                ("a voice", VOICE, 35),
+                ("an end", END, 5),
+            ] {
+                let mut block = two_frames(kind);
+                block.payload.truncate(size);
+                let bytes = then_good(block.saying(size as u32));
+                let what = name(&format!("{what} of {size}, then good blocks"));
+                self.wrong_size(what, bytes, at, size as u32);
+            }
+            for (what, block) in [
+                ("kind 4", two_frames(4)),
+                ("a second head", Block::head(9, 5)),
+                ("an end saying two more", Block::end(heard + 2)),
+            ] {
+                let what = name(&format!("{what}, then good blocks"));
+                self.refused(what, then_good(block), 8, at);
+            }
+            if count > 0 {
+                let mut byte = after(&[Block::end(heard)]);
+                byte.push(2);
+                self.refused(name("a right end, then a byte"), byte, 8, at + 10);
+                let bytes = then_good(Block::end(heard));
+                self.refused(name("a right end, then good blocks"), bytes, 8, at + 10);
+            }
+        }
+    }
+
+    /// A voice block past the end with so many bytes left after its header: first, and after the
+    /// head and 0, 1 or 2 voice blocks.
+    fn frames_left(&mut self) {
+        let frames = spoken(13, 5);
+        let cut = |said: u32, left: usize| {
+            let mut block = joined(&[Block::voice(&frames[3..]).saying(said)]);
+            block.truncate(HEADER_LENGTH + left);
+            block
+        };
+        for said in [54, 55] {
+            let name = format!("a voice of {said} first, 36 bytes left");
+            self.refused(name, cut(said, 36), 10, 0);
+        }
+        let blocks = [voice().saying(65_536), head(), voice(), end()];
+        self.refused("a voice of 65536 first, over all", joined(&blocks), 10, 0);
+        for count in 0..=2 {
+            let before = before_the_refusal(count, &frames);
+            let mut lengths: Vec<(u32, usize)> = Vec::new();
+            for left in [0, 17, 18, 19, 35, 36] {
+                lengths.extend([(54, left), (55, left)]);
+            }
+            if count == 1 {
+                lengths.extend([(18, 17), (36, 35)]);
+            }
+            for (said, left) in lengths {
+                let name = format!("after {count} voices, a voice of {said}, {left} left");
+                let bytes = [&before[..], &cut(said, left)].concat();
+                self.refused(name, bytes, 10, before.len() as u32);
+            }
+        }
+    }
+
+    /// The length of each of three voice blocks made so large that it runs over the blocks after
+    /// it: to the end, past it by one byte, to a multiple of 18, by far.
+    fn wild_lengths(&mut self) {
+        let frames = spoken(14, 6);
+        let blocks = sound_blocks(9, 6, &[&frames[..3], &frames[3..5], &frames[5..]]);
+        // What stands after the header of each, up to the end of 150 bytes.
+        for (k, at, rest) in [(1, 14, 130), (2, 74, 70), (3, 116, 28)] {
+            for (said, refusal) in [
+                (rest, Refusal::wrong_size(at, rest)),
+                (rest + 1, Refusal::new(10, at)),
+                (rest.next_multiple_of(18), Refusal::new(10, at)),
+                (4_294_967_292, Refusal::new(10, at)),
+            ] {
+                let mut blocks = blocks.clone();
+                blocks[k].length = said;
+                let name = format!("voice {k} of three saying {said}");
+                self.add(name, joined(&blocks), Some(refusal));
+            }
+        }
+        // Up to the end to the byte and of whole frames: only the end is missing.
+        let mut bytes = joined(&[head(), Block::voice(&frames[..1]).saying(36), end()]);
+        bytes.extend([7; 8]);
+        let length = bytes.len() as u32;
+        self.refused("a voice over the end and eight bytes", bytes, 8, length);
+    }
+
+    /// A head and voice blocks that have no end, with some bytes more, near 65,536 bytes. With its
+    /// end it would have 65,532, 65,538 or 65,544 bytes.
+    fn few_at_the_limit(&mut self) {
+        let frames = spoken(15, 3640);
+        let more = joined(&[end()]);
+        let past = |at| Refusal::new(10, at);
+        let mut add = |counts: &[usize], said: Option<u32>, more: &[u8], refusal: Refusal| {
+            self.at_the_limit(&frames, counts, said, more, refusal);
+        };
+        // 65,532 bytes with the end: no frame goes.
+        for counts in [&[3639][..], &[1, 1, 1, 3635], &[3635, 1, 1, 1]] {
+            add(counts, None, &[], Refusal::new(8, 65_522));
+        }
+        add(&[3639], None, &more[..5], Refusal::new(9, 65_522));
+        let wrong = joined(&[Block::end(3640)]);
+        add(&[3639], None, &wrong, Refusal::new(8, 65_522));
+        let wrong = [&wrong[..], &[0; 4]].concat();
+        add(&[3639], None, &wrong, Refusal::new(8, 65_522));
+        let voice = joined(&[Block::voice(&frames[3639..])]);
+        add(&[3639], None, &voice[..14], past(65_522));
+        let next = &frames[3639];
+        add(&[3639], Some(65_520), &[], past(14));
+        add(&[3639], Some(65_520), &next[..14], past(14));
+        add(&[3639], Some(65_517), &next[..14], past(14));
+        // 65,538 bytes with the end: a frame goes, and its block if it is the only one.
+        for counts in [[3638, 1], [3637, 2], [1, 3638]] {
+            add(&counts, None, &[], Refusal::new(8, 65_528));
+            add(&counts, None, &more[..8], past(65_528));
+        }
+        for length in [1, 5] {
+            add(&[3638, 1], None, &more[..length], Refusal::new(9, 65_528));
+        }
+        for length in [6, 7] {
+            add(&[3638, 1], None, &more[..length], past(65_528));
+        }
+        let small = joined(&[Block::new(END, vec![187, 14])]);
+        add(&[1, 3638], None, &small, Refusal::wrong_size(65_528, 2));
+        let strange = joined(&[Block::zeros(4, 2)]);
+        add(&[3638, 1], None, &strange, Refusal::new(8, 65_528));
+        for more in [&[][..], &next[..8]] {
+            add(&[3638, 1], Some(36), more, past(65_504));
+            add(&[3637, 2], Some(54), more, past(65_486));
+            add(&[1, 3638], Some(65_502), more, past(38));
+        }
+        add(&[3638, 1], Some(27), &next[..7], past(65_504));
+        add(&[1, 3638], Some(65_493), &next[..8], past(38));
+        // 65,544 bytes with the end: a frame goes, and that is enough.
+        for (length, number) in [(0, 8), (2, 9)] {
+            for counts in [[1, 3637, 1], [1, 1, 3637]] {
+                add(&counts, None, &more[..length], Refusal::new(number, 65_534));
+            }
+            let more = &next[..length];
+            add(&[1, 3637, 1], Some(36), more, past(65_510));
+            add(&[1, 1, 3637], Some(65_484), more, past(62));
+        }
+        add(&[1, 3637, 1], None, &more[..1], Refusal::new(9, 65_534));
+        add(&[1, 1, 3637], Some(65_484), &next[..1], past(62));
+        // A byte more than a recording may have.
+        add(&[3639], Some(65_520), &next[..15], Refusal::LENGTH);
+        add(&[1, 3638], Some(65_502), &next[..9], Refusal::LENGTH);
+        add(&[1, 3637, 1], None, &more[..3], Refusal::LENGTH);
+    }
+
+    /// The same with almost as many voice blocks as frames.
+    fn many_at_the_limit(&mut self) {
+        let frames = spoken(16, 2731);
+        let more = joined(&[end()]);
+        let next = &frames[2730];
+        let past = |at| Refusal::new(10, at);
+        let ones = |count| vec![1; count];
+        let mut add = |counts: &[usize], said: Option<u32>, more: &[u8], refusal: Refusal| {
+            self.at_the_limit(&frames, counts, said, more, refusal);
+        };
+        // 65,532 bytes with the end.
+        let last_three = [ones(2727), vec![3]].concat();
+        let first_three = [vec![3], ones(2727)].concat();
+        add(&last_three, None, &[], Refusal::new(8, 65_522));
+        add(&first_three, None, &[], Refusal::new(8, 65_522));
+        add(&last_three, Some(72), &next[..14], past(65_462));
+        add(&first_three, Some(36), &next[..14], past(65_498));
+        // 65,538 bytes with the end.
+        let last_two = [ones(2728), vec![2]].concat();
+        let first_two = [vec![2], ones(2728)].concat();
+        for (more, number) in [(&[][..], 8), (&more[..8], 10)] {
+            add(&last_two, None, more, Refusal::new(number, 65_528));
+            add(&first_two, None, more, Refusal::new(number, 65_528));
+        }
+        for more in [&[][..], &next[..8]] {
+            add(&last_two, Some(54), more, past(65_486));
+            add(&first_two, Some(36), more, past(65_504));
+        }
+        // 65,544 bytes with the end.
+        let all = ones(2730);
+        for (length, number) in [(0, 8), (1, 9), (2, 9)] {
+            add(&all, None, &more[..length], Refusal::new(number, 65_534));
+            add(&all, Some(36), &next[..length], past(65_510));
+        }
+        add(&all, None, &more[..3], Refusal::LENGTH);
+        add(&all, Some(36), &next[..3], Refusal::LENGTH);
+        // The last frame is not whole: the others have room.
+        add(&ones(2729), Some(36), &next[..17], past(65_486));
+        let voice = joined(&[Block::voice(&frames[2729..2730])]);
+        add(&ones(2729), None, &voice[..23], past(65_510));
+    }
+
+    /// A wild length over many blocks, up to 65,536 bytes and near it: with its end each would have
+    /// 65,532, 65,538 or 65,544 bytes, and with a byte less 18 fewer.
+    fn wild_at_the_limit(&mut self) {
+        let frames = spoken(17, 3640);
+        let mut voices = vec![&frames[..1], &frames[1..2]];
+        voices.extend(frames[2..].chunks(40));
+        let blocks = sound_blocks(9, 7, &voices);
+        for (k, at, fewest) in [(1, 14, 65_522), (2, 38, 65_528), (3, 62, 65_534)] {
+            let mut blocks = blocks.clone();
+            blocks[k].length = 0x8000_0000;
+            let bytes = joined(&blocks);
+            for length in [65_536, fewest, fewest - 1] {
+                let name = format!("{length} bytes, voice {k} of many wild");
+                self.refused(name, bytes[..length].to_vec(), 10, at);
+            }
+        }
+        let bytes = joined(&blocks)[..65_537].to_vec();
+        self.refused("65537 bytes of many voices", bytes, 1, 0);
+    }
+
+    /// A head and voice blocks of so many frames, the last one saying another length if so, and
+    /// then some bytes.
+    fn at_the_limit(
+        &mut self,
+        frames: &[Frame],
+        counts: &[usize],
+        said: Option<u32>,
+        more: &[u8],
+        refusal: Refusal,
+    ) {
+        let mut blocks = vec![Block::head(9, 8)];
+        let mut rest = frames;
+        for &count in counts {
+            let (voice, after) = rest.split_at(count);
+            blocks.push(Block::voice(voice));
+            rest = after;
+        }
+        let last = blocks.last_mut().expect("there is a head");
+        last.length = said.unwrap_or(last.length);
+        let bytes = [&joined(&blocks)[..], more].concat();
+        let voices = match counts {
+            [first, .., last] if counts.len() > 4 => {
+                format!("{} voices, {first} to {last}", counts.len())
+            }
+            _ => format!("voices {counts:?}"),
+        };
+        let said = said.map_or(String::new(), |said| format!(" saying {said}"));
+        let then = match more {
+            [] => "no end".to_string(),
+            _ => format!("{} bytes more, refused {}", more.len(), refusal.number),
+        };
+        let name = format!("{} bytes, {voices}{said}, {then}", bytes.len());
+        self.add(name, bytes, Some(refusal));
+    }
+}
+
+/// A head and 0, 1 or 2 voice blocks, of two frames and of one.
+fn before_the_refusal(count: usize, frames: &[Frame]) -> Vec<u8> {
+    let voices = [Block::voice(&frames[..2]), Block::voice(&frames[2..3])];
+    joined(&[&[Block::head(9, 4)], &voices[..count]].concat())
 }
 
 /// One damage to the blocks of a recording.

@@ -7,7 +7,7 @@ use std::path::{Path, PathBuf};
 use std::process::ExitCode;
 
 const USAGE: &str =
-    "usage: outside tables | sample | list | hear | salvage | recording SEED N | recordings DIR N SEED | leaves | leaf-cases [KIND MORE SEED] | windows DIR | exchange | exchange-cases";
+    "usage: outside tables | sample | list | hear | salvage | edges | recording SEED N | recordings DIR N SEED | leaves | leaf-cases [KIND MORE SEED] | windows DIR | exchange | exchange-cases";
 
 /// Recordings longer than this get no `.hear` file.
 const LONGEST_HEARD: usize = 20_000;
@@ -30,6 +30,7 @@ fn main() -> ExitCode {
         ["list"] => input().and_then(|recording| print(&listing::list(&recording))),
         ["hear"] => input().and_then(|recording| print(&hear::hear(&recording))),
         ["salvage"] => input().and_then(|recording| print_salvaged(&recording)),
+        ["edges"] => print(edges().as_bytes()),
         ["recording", seed, n] => match (seed.parse(), n.parse()) {
             (Ok(seed), Ok(n)) => print(&cases::recording(seed, n)),
             _ => return usage(),
@@ -65,6 +66,14 @@ fn print_salvaged(recording: &[u8]) -> io::Result<()> {
     let salvaged = salvage::salvage(recording);
     print(salvage::written(recording, &salvaged))?;
     io::stderr().write_all(salvage::changes(&salvaged).as_bytes())
+}
+
+/// The number and the name of each edge.
+fn edges() -> String {
+    let edges = cases::edges().into_iter().enumerate();
+    edges
+        .map(|(n, edge)| format!("{n} {}\n", edge.name))
+        .collect()
 }
 
 /// Standard input, as far as one byte past the longest recording.
