@@ -19,4 +19,5 @@ pub mod refusal;
 pub mod salvage;
 pub mod tables;
 pub mod text;
+pub mod uploads;
 pub mod values;

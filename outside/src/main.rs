@@ -1,13 +1,13 @@
 //! The command line over the library: tables, numbers, listings, hearings, salvaging and cases.
 
-use outside::{cases, exchange, hear, leaves, listing, recording, salvage, tables};
+use outside::{cases, exchange, hear, leaves, listing, recording, salvage, tables, uploads};
 use std::fs;
 use std::io::{self, Read, Write};
 use std::path::{Path, PathBuf};
 use std::process::ExitCode;
 
 const USAGE: &str =
-    "usage: outside tables | sample | list | hear | salvage | edges | recording SEED N | recordings DIR N SEED | leaves | leaf-cases [KIND MORE SEED] | windows DIR | exchange | exchange-cases";
+    "usage: outside tables | sample | list | hear | salvage | edges | recording SEED N | recordings DIR N SEED | cuts DIR | uploads DIR N SEED | leaves | leaf-cases [KIND MORE SEED] | windows DIR | exchange | exchange-cases";
 
 /// Recordings longer than this get no `.hear` file.
 const LONGEST_HEARD: usize = 20_000;
@@ -37,6 +37,14 @@ fn main() -> ExitCode {
         },
         ["recordings", folder, count, seed] => match (count.parse(), seed.parse()) {
             (Ok(count), Ok(seed)) => recordings(Path::new(folder), count, seed),
+            _ => return usage(),
+        },
+        ["cuts", folder] => salvages(Path::new(folder), uploads::cuts()),
+        ["uploads", folder, count, seed] => match (count.parse(), seed.parse()) {
+            (Ok(count), Ok(seed)) => {
+                let all = (0..count).map(|n| uploads::upload(seed, n));
+                salvages(Path::new(folder), all)
+            }
             _ => return usage(),
         },
         _ => return usage(),
@@ -114,6 +122,15 @@ fn write_salvaged(folder: &Path, n: usize, recording: &[u8]) -> io::Result<()> {
     let written = salvage::written(recording, &salvaged);
     fs::write(file(folder, n, "salvaged"), written)?;
     fs::write(file(folder, n, "changes"), salvage::changes(&salvaged))
+}
+
+/// Writes recordings with what is salvaged of each.
+fn salvages(folder: &Path, all: impl IntoIterator<Item = Vec<u8>>) -> io::Result<()> {
+    fs::create_dir_all(folder)?;
+    for (n, bytes) in all.into_iter().enumerate() {
+        write_salvaged(folder, n, &bytes)?;
+    }
+    Ok(())
 }
 
 /// Writes recordings with their listings, what is heard in them and what is salvaged of them: the
