@@ -1,12 +1,13 @@
 #!/usr/bin/env python3
-"""Holds a listing program to the independent one, and a hearing program beside it, over many recordings, sound and damaged.
+"""Holds a listing program to the independent one, and a hearing and a salvaging program beside it, over many recordings, sound and damaged.
 
-    listings.py OUTSIDE COUNT SEED LIST [HEAR]
+    listings.py OUTSIDE COUNT SEED LIST [HEAR [SALVAGE]]
 
-OUTSIDE is the independent program, which writes the recordings with what is to be printed of each. LIST and HEAR are commands, each
-one word of the shell's (as './run target/bin/list'). Each recording is read from a file, and some small ones come through a pipe in
-pieces. A program has to print what is expected, say nothing on standard error and end with status 0. Then each is run with an argument,
-and on an input that cannot be read: it prints nothing and says one line. The last line says how many cases were compared.
+OUTSIDE is the independent program, which writes the recordings with what is to be printed of each. LIST, HEAR and SALVAGE are commands,
+each one word of the shell's (as './run target/bin/list'). Each recording is read from a file, and some small ones come through a pipe in
+pieces. A program has to print what is expected, say on standard error the changes, if it is SALVAGE, or nothing, and end with status 0.
+SALVAGE is held over the named edges and every third of the recordings after them, and over the cuts and some uploads. Then each is run with
+an argument, and on an input that cannot be read: it prints nothing and says one line. The last line says how many cases were compared.
 """
 
 import os
@@ -15,6 +16,11 @@ import subprocess
 import sys
 import tempfile
 from pathlib import Path
+
+# each program with the suffix of what is printed, that of what is said on standard error if there is any, and its usage after its name
+PROGRAMS = [("list", ".list", None, "<recording"), ("hear", ".hear", None, "<recording"),
+            ("salvage", ".salvaged", ".changes", "<recording >salvaged")]
+UPLOADS = 150
 
 
 def in_pieces(program, data, size):
@@ -44,26 +50,28 @@ class Compared:
         self.cases += 1
         if answer != expected:
             self.differ += 1
-            print(f"{name}: status {answer[0]}, {answer[1][:120]!r}, not {expected[1][:120]!r}; standard error {answer[2][:120]!r}")
+            print(f"{name}: status {answer[0]}, {answer[1][:120]!r}, not {expected[1][:120]!r}; "
+                  f"standard error {answer[2][:120]!r}, not {expected[2][:120]!r}")
 
 
-def compare(compared, folder, program, suffix):
-    """Runs a program over the recordings that have a file with this suffix."""
+def compare(compared, folder, program, printed, said, every=lambda n: True):
+    """Runs a program over the recordings, by their number, that have a file with the suffix of what is printed."""
     for n, path in enumerate(sorted(folder.glob("*.rec"))):
-        wanted = path.with_suffix(suffix)
-        if not wanted.exists():
+        wanted = path.with_suffix(printed)
+        if not wanted.exists() or not every(n):
             continue
-        expected = (0, wanted.read_bytes(), b"")
+        expected = (0, wanted.read_bytes(), path.with_suffix(said).read_bytes() if said else b"")
+        name = f"{folder.name}/{path.name} {printed}"
         with path.open("rb") as recording:
-            compared.hold(f"{path.name} {suffix} from a file", from_file(program, recording), expected)
+            compared.hold(f"{name} from a file", from_file(program, recording), expected)
         if n % 10 == 0 and path.stat().st_size < 3000:
-            compared.hold(f"{path.name} {suffix} in pieces", in_pieces(program, path.read_bytes(), 1 + n % 7), expected)
+            compared.hold(f"{name} in pieces", in_pieces(program, path.read_bytes(), 1 + n % 7), expected)
 
 
-def strange(compared, folder, program, name):
+def strange(compared, folder, program, name, usage):
     """An argument, and an input that cannot be read."""
     with (folder / "00000.rec").open("rb") as recording:
-        usage = f"usage: oatlantern-{name} <recording\n".encode()
+        usage = f"usage: oatlantern-{name} {usage}\n".encode()
         compared.hold(f"{name} with an argument", from_file([*program, "FILE"], recording), (0, b"", usage))
     directory = os.open(folder, os.O_RDONLY)
     unread = f"oatlantern-{name}: standard input cannot be read\n".encode()
@@ -74,12 +82,20 @@ def strange(compared, folder, program, name):
 def main(outside, count, seed, *programs):
     compared = Compared()
     with tempfile.TemporaryDirectory() as name:
-        folder = Path(name)
+        folder, cuts, uploads = (Path(name) / part for part in ("recordings", "cuts", "uploads"))
         subprocess.run([outside, "recordings", folder, count, seed], check=True)
-        for (word, suffix), program in zip([("list", ".list"), ("hear", ".hear")], programs):
+        edges = len(subprocess.run([outside, "edges"], stdout=subprocess.PIPE, check=True).stdout.splitlines())
+        for (word, printed, said, usage), program in zip(PROGRAMS, programs):
             program = shlex.split(program)
-            compare(compared, folder, program, suffix)
-            strange(compared, folder, program, word)
+            if word == "salvage":
+                subprocess.run([outside, "cuts", cuts], check=True)
+                subprocess.run([outside, "uploads", uploads, str(UPLOADS), seed], check=True)
+                compare(compared, folder, program, printed, said, lambda n: n < edges or n % 3 == 0)
+                compare(compared, cuts, program, printed, said)
+                compare(compared, uploads, program, printed, said)
+            else:
+                compare(compared, folder, program, printed, said)
+            strange(compared, folder, program, word, usage)
         refused = sum(path.read_bytes().startswith(b"refused") for path in folder.glob("*.list"))
     print(f"{refused} of the recordings are refused")
     print(f"compared {compared.cases} cases, {compared.differ} differ")
@@ -87,6 +103,6 @@ def main(outside, count, seed, *programs):
 
 
 if __name__ == "__main__":
-    if not 5 <= len(sys.argv) <= 6:
+    if not 5 <= len(sys.argv) <= 7:
         sys.exit(__doc__)
     sys.exit(main(*sys.argv[1:]))
