@@ -1,11 +1,11 @@
 #!/usr/bin/env python3
 """Makes the recordings of this folder, and what is to be said of each.
 
-    make.py PROGRAM            writes NAME.rec, NAME.list and NAME.hear
+    make.py PROGRAM            writes NAME.rec, NAME.list, NAME.hear and NAME.changes, and NAME.salvaged where something is mended
     make.py --check PROGRAM    compares them with what is stored
 
-PROGRAM is the independent program (outside/target/release/outside), called with the word `list` or `hear`. The bytes are laid out here,
-block by block and place by place, by the tables of outside/tables; README.md says what is wrong with each recording.
+PROGRAM is the independent program (outside/target/release/outside), called with the word `list`, `hear` or `salvage`. The bytes are laid
+out here, block by block and place by place, by the tables of outside/tables; README.md says what is wrong with each recording.
 """
 
 import subprocess
@@ -104,7 +104,9 @@ RECORDINGS = {
     "empty": b"",
     "cut": (HEAD + VOICE + END)[:59],
     "dropped": (HEAD + VOICE + END)[:44],
+    "dropped-later": (head(12, 345) + voice(*SPOKEN[:3]) + voice(*SPOKEN[3:]) + end(6))[:107],
     "bad-length": HEAD + voice(ZERO, HIT, length=100) + END,
+    "wild-length": HEAD + voice(ZERO, length=2000) + voice(HIT) + END,
     "wrong-size": HEAD + voice((ZERO + HIT)[:35]) + END,
     "empty-voice": HEAD + voice() + END,
     "long-head": block(1, number(7) + number(1) + b"\0") + VOICE + END,
@@ -116,27 +118,33 @@ RECORDINGS = {
 }
 
 
+def said_of(program, recording):
+    """What the program says of a recording: the content of each file beside it, by suffix."""
+    def run(word, **more):
+        return subprocess.run([program, word], input=recording, stdout=subprocess.PIPE, check=True, **more)
+    salvaged = run("salvage", stderr=subprocess.PIPE)
+    made = {".list": run("list").stdout, ".hear": run("hear").stdout, ".changes": salvaged.stderr}
+    mended = salvaged.stderr and not salvaged.stderr.startswith(b"refused ")
+    return made | ({".salvaged": salvaged.stdout} if mended else {})
+
+
 def main():
     check, program = sys.argv[1:-1] == ["--check"], sys.argv[-1]
     if len(sys.argv) != 2 + check or program.startswith("--"):
         sys.exit(__doc__)
-    stored = {file.stem for file in HERE.iterdir() if file.suffix in (".rec", ".list", ".hear")}
-    faults = [f"samples/{name}: nothing here makes it" for name in sorted(stored - set(RECORDINGS))]
-    cases = 0
-    for name, recording in RECORDINGS.items():
-        made = {".rec": recording}
-        for word in ("list", "hear"):
-            made["." + word] = subprocess.run([program, word], input=recording, stdout=subprocess.PIPE, check=True).stdout
-        for suffix, content in made.items():
-            file = HERE / (name + suffix)
-            cases += 1
-            if not check:
-                file.write_bytes(content)
-            elif not file.exists() or file.read_bytes() != content:
-                faults.append(f"samples/{file.name}: not what is made")
+    made = {name + suffix: content for name, recording in RECORDINGS.items()
+            for suffix, content in ({".rec": recording} | said_of(program, recording)).items()}
+    stored = {file.name for file in HERE.iterdir() if file.suffix in (".rec", ".list", ".hear", ".changes", ".salvaged")}
+    faults = [f"samples/{name}: nothing here makes it" for name in sorted(stored - set(made))]
+    for name, content in made.items():
+        file = HERE / name
+        if not check:
+            file.write_bytes(content)
+        elif not file.exists() or file.read_bytes() != content:
+            faults.append(f"samples/{name}: not what is made")
     for fault in faults:
         print(fault)
-    print(f"{len(faults)} faults, {cases} cases")
+    print(f"{len(faults)} faults, {len(made)} cases")
     sys.exit(1 if faults else 0)
 
 
