@@ -3,3 +3,4 @@ pub mod Most
 pub mod Keeps
 pub mod Returns
 pub mod Plans
+pub mod Determined

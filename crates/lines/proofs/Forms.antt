@@ -4,10 +4,11 @@ use mathlib.Core.Path.{_≡_, _∙_, sym, refl, ap}
 use mathlib.Core.List.{List, [], _∷_, _++_, append-assoc, append-nil}
 use Prim.Native.Nat.{ℕ, _+_, _<_, _≤_, min}
 use native.Mathlib.Omega.{arith}
+use native.Mathlib.Decide.{decLe}
 use native.Mathlib.Numerals.{add-one}
 use borrow.Author.Tests.{lt-ltb, le-ltb}
 use lib.ListN.{length, getD, take}
-use lib.Seq.{take-suc}
+use lib.Seq.{take-suc, take-all}
 use Rattle.text.specs.Decimal.{decimal}
 use Rattle.text.proofs.Laid.{Put, put-as, put-nothing, put-then}
 use Rattle.lines.specs.Forms.{shownBy, filledIn}
@@ -74,9 +75,14 @@ module _ {o : List ℕ} {at : ℕ} {numbers form : List ℕ} {size : ℕ} {o′ 
         upto = omega arith;
       }
 
-  -- after the last all is laid
-  pub laying-done : size ≤ k → Put o at (filledIn numbers (take size form)) end o′
-  laying-done h =
-      let e : k ≡ size = omega (arith, l .upto) in
-      put-as o at (filledIn numbers (take k form)) (filledIn numbers (take size form))
-      (ap (λ (n : ℕ). filledIn numbers (take n form)) e) (l .put)
+  -- after the last all is laid, of a form that asks for no more bytes than it has, and of one that asks for more
+  pub laying-done : size ≤ k → (asked : ℕ) → size ≡ min asked (length form)
+      → Put o at (filledIn numbers (take asked form)) end o′
+  laying-done h asked m =
+      put-as o at (filledIn numbers (take k form)) (filledIn numbers (take asked form))
+      (ap (filledIn numbers) (all (decLe asked (length form)))) (l .put)
+    where
+      all : Dec (asked ≤ length form) → take k form ≡ take asked form
+      all (yes w) = let e : k ≡ asked = omega (arith, l .upto, m) in ap (λ (n : ℕ). take n form) e
+      all (no w) =
+          take-all k form (omega (arith, l .upto, m)) ∙ sym (take-all asked form (omega arith))

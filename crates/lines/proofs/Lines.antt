@@ -14,8 +14,7 @@ use Rattle.text.specs.Ascii.{ascii}
 use Rattle.text.specs.Decimal.{decimal}
 use Rattle.lines.specs.Lines.{pairLine, headLine, fields, restOf, frameLine, lastLine, numbersShown}
 use Rattle.lines.specs.Lines.{refusalLine, refusedLine, lineOf}
-use Rattle.lines.specs.Forms.{filledIn, Shows}
-use Rattle.lines.specs.declared.Form.{Form}
+use Rattle.lines.specs.Forms.{filledIn}
 use Rattle.lines.specs.declared.Line.{Line}
 use Rattle.lines.specs.declared.Said.{Said}
 
@@ -90,20 +89,20 @@ unfolding filledIn
 size-text number place size = sym (size-line number place size)
 
 -- the returns of `refusal`: what is told is one of its cases
-pub shows-told : (number : ℕ) (t : Told) {u : Told} (f : Form) → t ≡ u → Shows f (refusalLine number (numbersShown u))
-    → Shows f (refusalLine number (numbersShown t))
-shows-told number t f e s = (s .0, s .1 ∙ ap (λ (u : Told). refusalLine number (numbersShown u)) (sym e))
+pub shows-told : (number : ℕ) (t : Told) {u : Told} {text : List ℕ} → t ≡ u
+    → text ≡ refusalLine number (numbersShown u) → text ≡ refusalLine number (numbersShown t)
+shows-told number t e s = s ∙ ap (λ (u : Told). refusalLine number (numbersShown u)) (sym e)
 
 -- where nothing is told, the longest length of a recording is shown
-pub shows-longest : (number : ℕ) (t : Told) {place : ℕ} (f : Form) → t ≡ Nothing → place ≡ longest
-    → Shows f (refusalLine number (place ∷ [])) → Shows f (refusalLine number (numbersShown t))
-shows-longest number t f e l s = shows-told number t f e (rw (sym l) s)
+pub shows-longest : (number : ℕ) (t : Told) {place : ℕ} {text : List ℕ} → t ≡ Nothing → place ≡ longest
+    → text ≡ refusalLine number (place ∷ []) → text ≡ refusalLine number (numbersShown t)
+shows-longest number t e l s = shows-told number t e (rw (sym l) s)
 
 -- the return of `refused`
-pub shows-refused : (cause : Cause) {number : ℕ} {t : Told} (f : Form) → number ≡ refusalOf cause → t ≡ toldOf cause
-    → Shows f (refusalLine number (numbersShown t)) → Shows f (refusedLine cause)
+pub shows-refused : (cause : Cause) {number : ℕ} {t : Told} {text : List ℕ} → number ≡ refusalOf cause → t ≡ toldOf cause
+    → text ≡ refusalLine number (numbersShown t) → text ≡ refusedLine cause
 unfolding refusedLine
-shows-refused cause f n t s = rw (sym n, sym t) s
+shows-refused cause n t s = rw (sym n, sym t) s
 
 -- the returns of `frame`
 module _ (x : Said) where
@@ -128,5 +127,5 @@ module _ (x : Said) where
       ∙ ap (spaced (x .correction ∷ [])) (spaced-out ms (ascii "\n")))))
 
 -- the returns of `form_of`: the line is one of its cases
-pub shows-line : (line : Line) {one : Line} (f : Form) → line ≡ one → Shows f (lineOf one) → Shows f (lineOf line)
-shows-line line f e s = (s .0, s .1 ∙ ap lineOf (sym e))
+pub shows-line : (line : Line) {one : Line} {text : List ℕ} → line ≡ one → text ≡ lineOf one → text ≡ lineOf line
+shows-line line e s = s ∙ ap lineOf (sym e)

@@ -1,8 +1,7 @@
--- What the steps of a put answer: a line as a form and its numbers.
+-- A line as a form and its numbers.
 use mathlib.Core.Bool.{cond}
-use mathlib.Core.Path.{_≡_}
 use mathlib.Core.List.{List, [], _∷_, _++_}
-use Prim.Native.Nat.{ℕ, _≤_}
+use Prim.Native.Nat.{ℕ}
 use lib.Dec.{ltb}
 use lib.ListN.{getD, take}
 use Rattle.text.specs.Decimal.{decimal}
@@ -18,7 +17,3 @@ filledIn numbers (c ∷ form) = shownBy numbers c ++ filledIn numbers form
 
 abbrev pub formText : Form → List ℕ
 formText f = filledIn (f .numbers) (take (f .size) (f .bytes))
-
--- a form that is no longer than it can be shows this text
-abbrev pub Shows : Form → List ℕ → Type 0
-Shows f text = (f .size ≤ 28) × (formText f ≡ text)

@@ -1,14 +1,13 @@
-// The lines of a listing, laid into a lent buffer as `text` lays words: each put answers the position after its line, held at
-// the buffer's end. What has no room is left out, and no other byte changes.
+// The lines of a listing, and any line that is a form and its numbers, laid into a lent buffer as `text` lays words: each put answers
+// the position after its line, held at the buffer's end. What has no room is left out, and no other byte changes.
 use blocks::Cause;
 use blocks::Heading;
 use blocks::Told;
 ghost use mathlib.Core.Path.{_≡_};
 ghost use mathlib.Core.List.{[], _∷_};
-ghost use Prim.Native.Nat.{_≤_};
 ghost use Rattle.text.specs.Laid.{laid, after};
 ghost use Rattle.lines.specs.Lines.{headLine, frameLine, lastLine, numbersShown, refusalLine, refusedLine, lineOf};
-ghost use Rattle.lines.specs.Forms.{formText, Shows};
+ghost use Rattle.lines.specs.Forms.{formText};
 
 // What is said of a frame: its number, its correction number, and its order mark, SY and four delays; or, where it is not 0, the
 // refusal of its values.
@@ -34,10 +33,10 @@ pub enum Line {
 }
 
 // A line as it is to be laid: the first bytes of its form, in which each byte below 8 stands for the number at that place.
-struct Form {
-    bytes: [u8; 28],
-    size: usize,
-    numbers: [u64; 8],
+pub struct Form {
+    pub bytes: [u8; 28],
+    pub size: usize,
+    pub numbers: [u64; 8],
 }
 
 // Lays a line.
@@ -49,14 +48,14 @@ pub fn put(out: &mut [u8], at: usize, line: Line) -> usize
 }
 
 // Lays a form: each of its bytes, or the number that it stands for.
-fn put_form(out: &mut [u8], at: usize, form: Form) -> usize
-    requires { ⌜ form .size ≤ 28 ⌝ }
+pub fn put_form(out: &mut [u8], at: usize, form: Form) -> usize
     ensures { λ r. ⌜ r ≡ after (now (out .entry)) at (formText form) ⌝ }
     ensures { λ _. ⌜ now (out .exit) ≡ laid (now (out .entry)) at (formText form) ⌝ }
 {
+    let size = text::least(form.size, 28);
     let mut end = text::least(at, out.len());
     let mut i = 0;
-    while i < form.size {
+    while i < size {
         let c = form.bytes[i];
         if c < 8 {
             end = decimals::put_number(out, end, form.numbers[c as usize]);
@@ -70,7 +69,7 @@ fn put_form(out: &mut [u8], at: usize, form: Form) -> usize
 
 // The form of a line.
 fn form_of(line: Line) -> Form
-    ensures { λ r. ⌜ Shows r (lineOf line) ⌝ }
+    ensures { λ r. ⌜ formText r ≡ lineOf line ⌝ }
 {
     match line {
         Line::Head(heading, frames) => head(heading, frames),
@@ -82,7 +81,7 @@ fn form_of(line: Line) -> Form
 
 // The first line.
 fn head(heading: Heading, frames: u32) -> Form
-    ensures { λ r. ⌜ Shows r (headLine heading frames) ⌝ }
+    ensures { λ r. ⌜ formText r ≡ headLine heading frames ⌝ }
 {
     let unit = heading.unit as u64;
     let number = heading.number as u64;
@@ -95,7 +94,7 @@ fn head(heading: Heading, frames: u32) -> Form
 
 // The line of a frame.
 fn frame(said: Said) -> Form
-    ensures { λ r. ⌜ Shows r (frameLine said) ⌝ }
+    ensures { λ r. ⌜ formText r ≡ frameLine said ⌝ }
 {
     let number = said.number as u64;
     let correction = said.correction as u64;
@@ -125,7 +124,7 @@ fn frame(said: Said) -> Form
 
 // The last line.
 fn last(repaired: u32, breaks: u32) -> Form
-    ensures { λ r. ⌜ Shows r (lastLine repaired breaks) ⌝ }
+    ensures { λ r. ⌜ formText r ≡ lastLine repaired breaks ⌝ }
 {
     Form {
         bytes: *b"repaired \x00 breaks \x01\n        ",
@@ -136,7 +135,7 @@ fn last(repaired: u32, breaks: u32) -> Form
 
 // The one line of a recording that is refused.
 fn refused(cause: Cause) -> Form
-    ensures { λ r. ⌜ Shows r (refusedLine cause) ⌝ }
+    ensures { λ r. ⌜ formText r ≡ refusedLine cause ⌝ }
 {
     let number = refusals::refusal_number(cause);
     refusal(number, refusals::tells(cause))
@@ -144,7 +143,7 @@ fn refused(cause: Cause) -> Form
 
 // The line of a refusal by its number, with what it tells.
 fn refusal(number: u32, told: Told) -> Form
-    ensures { λ r. ⌜ Shows r (refusalLine number (numbersShown told)) ⌝ }
+    ensures { λ r. ⌜ formText r ≡ refusalLine number (numbersShown told) ⌝ }
 {
     match told {
         Told::Nothing => refusal_at(number, 65536),
@@ -155,7 +154,7 @@ fn refusal(number: u32, told: Told) -> Form
 
 // The same with a place alone.
 fn refusal_at(number: u32, place: usize) -> Form
-    ensures { λ r. ⌜ Shows r (refusalLine number (place ∷ [])) ⌝ }
+    ensures { λ r. ⌜ formText r ≡ refusalLine number (place ∷ []) ⌝ }
 {
     Form {
         bytes: *b"refused \x00 at \x01\n             ",
@@ -166,7 +165,7 @@ fn refusal_at(number: u32, place: usize) -> Form
 
 // The same with a place and a size.
 fn refusal_with_size(number: u32, place: usize, size: u32) -> Form
-    ensures { λ r. ⌜ Shows r (refusalLine number (place ∷ size ∷ [])) ⌝ }
+    ensures { λ r. ⌜ formText r ≡ refusalLine number (place ∷ size ∷ []) ⌝ }
 {
     Form {
         bytes: *b"refused \x00 at \x01 \x02\n           ",

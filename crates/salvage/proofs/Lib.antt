@@ -1,3 +1,4 @@
 pub mod Returns
 pub mod Puts
 pub mod Results
+pub mod Determined

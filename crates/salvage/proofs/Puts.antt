@@ -135,69 +135,69 @@ module _ {o : List ℕ} {start : ℕ} {s : List ℕ} {frames : ℕ} {out : List 
       (voices-none s at (voiceSize s at) refl (found-none s at e)))
 
   module _ (first rest kept : ℕ) (l : 0 < left) (e : foundAt s at 0 ≡ At first rest) (k : kept ≡ min (rest + 18) left)
-      where
-    entered : Entered s at first rest
-    entered = found-voice s at first rest e
+    where
+      entered : Entered s at first rest
+      entered = found-voice s at first rest e
 
-    -- the payload that is laid
-    payload : part s (at + 6) kept ≡ take (18 * (left / 18)) (part s (at + 6) (rest + 18))
-    payload = go (decLe left (rest + 18))
-      where
-        b : 18 * (left / 18) ≡ left
-        b = omega (arith, p .whole)
+      -- the payload that is laid
+      payload : part s (at + 6) kept ≡ take (18 * (left / 18)) (part s (at + 6) (rest + 18))
+      payload = go (decLe left (rest + 18))
+        where
+          b : 18 * (left / 18) ≡ left
+          b = omega (arith, p .whole)
 
-        go : Dec (left ≤ rest + 18) → part s (at + 6) kept ≡ take (18 * (left / 18)) (part s (at + 6) (rest + 18))
-        go (yes m) =
-            let n : kept ≡ left = omega arith in
-            ap (part s (at + 6)) (n ∙ sym b)
-            ∙ sym (take-take (18 * (left / 18)) (rest + 18) (drop (at + 6) s) (omega (arith, b)))
-        go (no m) =
-            let n : kept ≡ rest + 18 = omega arith in
-            let f = length-take (rest + 18) (drop (at + 6) s) in
-            ap (part s (at + 6)) n
-            ∙ sym (take-all (18 * (left / 18)) (part s (at + 6) (rest + 18)) (omega (arith, b, f)))
+          go : Dec (left ≤ rest + 18) → part s (at + 6) kept ≡ take (18 * (left / 18)) (part s (at + 6) (rest + 18))
+          go (yes m) =
+              let n : kept ≡ left = omega arith in
+              ap (part s (at + 6)) (n ∙ sym b)
+              ∙ sym (take-take (18 * (left / 18)) (rest + 18) (drop (at + 6) s) (omega (arith, b)))
+          go (no m) =
+              let n : kept ≡ rest + 18 = omega arith in
+              let f = length-take (rest + 18) (drop (at + 6) s) in
+              ap (part s (at + 6)) n
+              ∙ sym (take-all (18 * (left / 18)) (part s (at + 6) (rest + 18)) (omega (arith, b, f)))
 
-    -- the block and the rest of the blocks
-    blocks-on : blocksTo s at (left / 18)
-        ≡ block 2 (part s (at + 6) kept) ++ blocksTo s (first + (rest + 18)) ((left - kept) / 18)
-    unfolding voiceBlocks
-    blocks-on =
-        let t = entered in
-        let n : rest + 18 ≡ 0 → ⊥ = λ z. omega arith in
-        let long : length (part s (at + 6) (rest + 18)) ≡ rest + 18 =
-        length-take-le (rest + 18) (drop (at + 6) s) (simp length-drop (omega (arith, t .starts, t .fits))) in
-        let next : at + 6 + (rest + 18) ≡ first + (rest + 18) = omega (arith, t .starts) in
-        let fewer : left / 18 - length (part s (at + 6) (rest + 18)) / 18 ≡ (left - kept) / 18
-        = ap (λ (m : ℕ). left / 18 - m / 18) long ∙ omega (arith, p .whole, t .whole) in
-        ap (λ (x : List (List ℕ)). voiceBlocks (firstFrames x (left / 18))) (voices-more s at (rest + 18) (t .size) n)
-        ∙ ap voiceBlocks
-        (first-more (part s (at + 6) (rest + 18)) (voicesFrom s (at + 6 + (rest + 18))) (left / 18)
-        (omega (arith, p .whole)))
-        ∙ ap₂ (λ (x : List ℕ) (y : List ℕ). block 2 x ++ y) (sym payload)
-        (ap₂ (blocksTo s) next fewer)
+      -- the block and the rest of the blocks
+      blocks-on : blocksTo s at (left / 18)
+          ≡ block 2 (part s (at + 6) kept) ++ blocksTo s (first + (rest + 18)) ((left - kept) / 18)
+      unfolding voiceBlocks
+      blocks-on =
+          let t = entered in
+          let n : rest + 18 ≡ 0 → ⊥ = λ z. omega arith in
+          let long : length (part s (at + 6) (rest + 18)) ≡ rest + 18 =
+          length-take-le (rest + 18) (drop (at + 6) s) (simp length-drop (omega (arith, t .starts, t .fits))) in
+          let next : at + 6 + (rest + 18) ≡ first + (rest + 18) = omega (arith, t .starts) in
+          let fewer : left / 18 - length (part s (at + 6) (rest + 18)) / 18 ≡ (left - kept) / 18
+          = ap (λ (m : ℕ). left / 18 - m / 18) long ∙ omega (arith, p .whole, t .whole) in
+          ap (λ (x : List (List ℕ)). voiceBlocks (firstFrames x (left / 18))) (voices-more s at (rest + 18) (t .size) n)
+          ∙ ap voiceBlocks
+          (first-more (part s (at + 6) (rest + 18)) (voicesFrom s (at + 6 + (rest + 18))) (left / 18)
+          (omega (arith, p .whole)))
+          ∙ ap₂ (λ (x : List ℕ) (y : List ℕ). block 2 x ++ y) (sym payload)
+          (ap₂ (blocksTo s) next fewer)
 
-    -- a turn lays a block
-    pub laying-on : {out′ : List ℕ} {end′ : ℕ} → Put out end (block 2 (take (first + kept - first) (drop first s))) end′ out′
-        → Laying o start s frames out′ end′ (first + (rest + 18)) (left - kept)
-    laying-on {out′} {end′} q =
-        let m : first + kept - first ≡ kept = omega arith in
-        let same : take (first + kept - first) (drop first s) ≡ part s (at + 6) kept
-        = ap₂ (λ (x y : ℕ). take x (drop y s)) m (entered .starts) in
-        let r : Put out end (block 2 (part s (at + 6) kept)) end′ out′
-        = put-as out end _ (block 2 (part s (at + 6) kept)) (ap (block 2) same) q in
-        record {
-          here =
-              ap₂ (λ (x : List ℕ) (y : ℕ). laid x y (blocksTo s (first + (rest + 18)) ((left - kept) / 18))) (r .1) (r .0)
-              ∙ laid-then out end (block 2 (part s (at + 6) kept)) (blocksTo s (first + (rest + 18)) ((left - kept) / 18))
-              ∙ ap (laid out end) (sym blocks-on) ∙ p .here;
-          place =
-              ap₂ (λ (x : List ℕ) (y : ℕ). after x y (blocksTo s (first + (rest + 18)) ((left - kept) / 18))) (r .1) (r .0)
-              ∙ after-then out end (block 2 (part s (at + 6) kept)) (blocksTo s (first + (rest + 18)) ((left - kept) / 18))
-              ∙ ap (after out end) (sym blocks-on) ∙ p .place;
-          within = put-within out end _ r;
-          long = put-length out end _ r ∙ p .long;
-          whole = omega (arith, k, p .whole, entered .whole);
-        }
+      -- a turn lays a block
+      pub laying-on : {out′ : List ℕ} {end′ : ℕ} → Put out end (block 2 (take (first + kept - first) (drop first s))) end′ out′
+          → Laying o start s frames out′ end′ (first + (rest + 18)) (left - kept)
+      laying-on {out′} {end′} q =
+          let m : first + kept - first ≡ kept = omega arith in
+          let same : take (first + kept - first) (drop first s) ≡ part s (at + 6) kept
+          = ap₂ (λ (x y : ℕ). take x (drop y s)) m (entered .starts) in
+          let r : Put out end (block 2 (part s (at + 6) kept)) end′ out′
+          = put-as out end _ (block 2 (part s (at + 6) kept)) (ap (block 2) same) q in
+          record {
+            here =
+                ap₂ (λ (x : List ℕ) (y : ℕ). laid x y (blocksTo s (first + (rest + 18)) ((left - kept) / 18))) (r .1) (r .0)
+                ∙ laid-then out end (block 2 (part s (at + 6) kept)) (blocksTo s (first + (rest + 18)) ((left - kept) / 18))
+                ∙ ap (laid out end) (sym blocks-on) ∙ p .here;
+            place =
+                ap₂ (λ (x : List ℕ) (y : ℕ). after x y (blocksTo s (first + (rest + 18)) ((left - kept) / 18))) (r .1) (r .0)
+                ∙ after-then out end (block 2 (part s (at + 6) kept)) (blocksTo s (first + (rest + 18)) ((left - kept) / 18))
+                ∙ ap (after out end) (sym blocks-on) ∙ p .place;
+            within = put-within out end _ r;
+            long = put-length out end _ r ∙ p .long;
+            whole = omega (arith, k, p .whole, entered .whole);
+          }
 
 -- ---- the block of the last frames
 

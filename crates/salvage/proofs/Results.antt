@@ -6,7 +6,7 @@ use mathlib.Core.List.{List, _++_, append-assoc}
 use Prim.Native.Nat.{ℕ, zero, suc, _+_, _-_, _<_, _≤_}
 use native.Mathlib.Omega.{arith}
 use native.Mathlib.Decide.{decLt}
-use lib.ListN.{length, take, drop, length-append}
+use lib.ListN.{length, take, drop, length-append, length-drop}
 use lib.Seq.{take-all}
 use Rattle.laws.proofs.Chosen.{chosen}
 use Rattle.text.specs.Laid.{laid, after}
@@ -24,7 +24,7 @@ use Rattle.kept.proofs.First.{Sized, first-all, first-less}
 use Rattle.kept.proofs.Keeps.{blocks-join, Kept}
 use Rattle.kept.proofs.Most.{made-long, most-fits}
 use Rattle.kept.proofs.Plans.{kept-count, kept-rest, kept-voices, Planned, plan-written}
-use Rattle.salvage.specs.Salvaging.{resultOf, endOf, changesOf, answerOf, salvageOf, leftBy, bufferOf}
+use Rattle.salvage.specs.Salvaging.{resultOf, endOf, changesOf, answerOf, salvageOf, leftBy, bufferOf, longOf}
 use Rattle.salvage.specs.Steps.{bytesBefore, changesBy, answerBy}
 use Rattle.salvage.specs.declared.Changes.{Changes}
 use Rattle.salvage.specs.declared.Salvaged.{Salvaged}
@@ -163,3 +163,39 @@ module _ (s : List ℕ) (room : ℕ) (why : Unsalvaged) (e : planOf s room ≡ N
   unfolding bufferOf
   buffer-stays o l =
       ap (λ (x : Salvaged). leftBy x (resultOf s) o) (refused-is ∙ ap (salvageOf s) (sym l))
+
+-- the buffer is no shorter than it was
+buffer-long : (s o : List ℕ) → length o ≤ length (bufferOf s o)
+unfolding bufferOf
+buffer-long s o = go (salvageOf s (length o))
+  where
+    whole : length o ≤ length (resultOf s ++ drop (length (resultOf s)) o)
+    whole = simp (length-append, length-drop) (omega arith)
+
+    go : (x : Salvaged) → length o ≤ length (leftBy x (resultOf s) o)
+    go Sound = whole
+    go (Mended changes) = whole
+    go (Refused why) = omega arith
+
+-- the result stands within it
+pub result-within : (s o o′ : List ℕ) (x : Salvaged) (long : ℕ) → x ≡ salvageOf s (length o) → o′ ≡ bufferOf s o
+    → long ≡ longOf (length s) x → long ≤ length o′
+unfolding salvageOf changesOf
+result-within s o o′ x long e b l = go (planOf s (length o)) refl
+  where
+    by : long ≡ longOf (length s) (answerOf s (planOf s (length o)))
+    by = l ∙ ap (longOf (length s)) e
+
+    room : length o ≤ length o′
+    room = subst (λ (y : List ℕ). length o ≤ length y) (sym b) (buffer-long s o)
+
+    go : (y : Plan) → planOf s (length o) ≡ y → long ≤ length o′
+    go (Nothing why) i =
+        let z : long ≡ 0 = by ∙ ap (λ (y : Plan). longOf (length s) (answerOf s y)) i in omega (arith, z)
+    go (Written k) i =
+        let p = plan-written s (length o) k i in
+        let m : longOf (length s) (answerOf s (Written k)) ≤ longest
+        = chosen (λ (y : Salvaged). longOf (length s) y ≤ longest) (k .sound) (λ t. p .short) (λ t. result-short s) in
+        let n : long ≡ longOf (length s) (answerOf s (Written k))
+        = by ∙ ap (λ (y : Plan). longOf (length s) (answerOf s y)) i in
+        omega (arith, m, n, p .buffer, room)

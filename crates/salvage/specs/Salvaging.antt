@@ -51,6 +51,12 @@ leftBy (Refused why) result o = o
 unfoldable pub bufferOf : List ℕ → List ℕ → List ℕ
 bufferOf s o = leftBy (salvageOf s (length o)) (resultOf s) o
 
+-- how many of its bytes are the result of so many; a refusal has none
+abbrev pub longOf : ℕ → Salvaged → ℕ
+longOf long Sound = long
+longOf long (Mended changes) = changes .long
+longOf long (Refused why) = 0
+
 -- the number of a refusal, and what it tells; 0 is no refusal
 abbrev pub refusalOf : Salvaged → ℕ
 refusalOf Sound = 0

@@ -6,12 +6,11 @@ use Rattle.lines.proofs.frame.Statement.{statement}
 use Rattle.lines.proofs.frame.Tie as tie
 
 returns : tie.Need-returns
-returns c = let t = c .before .before in
-    (omega arith, said-refused (t .before .before .before .args .said) (t .if1 .taken))
+returns c = let t = c .before .before in said-refused (t .before .before .before .args .said) (t .if1 .taken)
 
 returns-2 : tie.Need-returns-2
 returns-2 c = let e = c .before .before .before .before .before .before .before in
-    (omega arith, said-heard (e .before .before .before .args .said) (e .if1 .left))
+    said-heard (e .before .before .before .args .said) (e .if1 .left)
 
 pub frame-spec : {M : Type 1} → statement M
 frame-spec =

@@ -4,7 +4,7 @@ use Rattle.lines.proofs.refused.Tie as tie
 
 returns : tie.Need-returns
 returns c =
-    shows-refused _ _ (c .before .before .refusal-number .ensures) (c .before .tells .ensures) (c .refusal .ensures)
+    shows-refused _ (c .before .before .refusal-number .ensures) (c .before .tells .ensures) (c .refusal .ensures)
 
 pub refused-spec : {M : Type 1} → statement M
 refused-spec = tie.close (tie.spec (λ c κs. tt) (λ c κs. tt) (λ c κs. tt) returns)

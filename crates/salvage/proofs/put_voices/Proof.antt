@@ -28,6 +28,7 @@ returns-2 c = laying-done (c .before .loop .inv) (c .loop-test .left)
 
 same-length-2 : tie.Need-same-length-2 Inv-loop μ-loop
 same-length-2 c = c .before .loop .inv .long
+
 add-size : tie.Need-add-size Inv-loop μ-loop
 add-size c =
     let f = c .before .before .before in
