@@ -269,13 +269,15 @@ def stated(crate):
 
 
 STATEMENT = re.compile(r"^(?:unfoldable |abbrev )pub ([A-Z]\w+) : Type 0$", re.M)
-statements = set(STATEMENT.findall(stated("promises") + stated("listing")))
+# the rooms that state promises: `promises`, and each that has a Promised.antt
+ROOMS = ["promises", *(crate for crate in LIBRARIES if (CRATES / crate / "specs/Promised.antt").exists())]
+statements = set(STATEMENT.findall("\n".join(stated(crate) for crate in ROOMS)))
 demands = (CRATES / "promises/specs/Demands.antt").read_text(encoding="utf-8")
 gathered = set(re.findall(r"^  pub [a-z-]+ : ([A-Z]\w+)$", demands, re.M))
 proved = (CRATES / "promises/proofs/Demands.antt").read_text(encoding="utf-8")
 hold(gathered, "no statement stands under the demands")
 hold(len(gathered) == len(re.findall(r"^      [a-z-]+ = ", proved, re.M)), "a statement under the demands has no proof")
-for statement in STATEMENT.findall(stated("promises")):
+for statement in sorted(statements):
     hold(statement in gathered, f"{statement} is under no demand, so nothing asks for its proof")
 for statement in gathered:
     hold(f"`{statement}`" in PAGE, f"{statement} is not on the page")

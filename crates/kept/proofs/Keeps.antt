@@ -199,6 +199,7 @@ pub record Kept (s : List ℕ) (w : Walk) (left : ℕ) : Type 0 where
   pub voices : Sized (voicesFrom s (afterHead 0))
   pub sized : Sized (keptOf s)
   pub whole : length (framesIn (voicesFrom s (afterHead 0))) ≡ w .frames
+  pub stands : w .at ≡ afterHead 0 + length (voiceBlocks (voicesFrom s (afterHead 0)))
   pub count : length (framesIn (keptOf s)) ≡ w .frames + left
   pub ends : afterHead 0 + length (voiceBlocks (keptOf s)) ≡ reachOf (w .at) left
   pub within : reachOf (w .at) left ≤ length s
@@ -244,6 +245,7 @@ kept-is s l t = go (walkedOf s .walk) refl (way s)
           voices = all-sized;
           sized = sized-join (voicesFrom s (afterHead 0)) rest all-sized (at-sized s at left there);
           whole = f;
+          stands = b .at ∙ ap (λ (x : List (List ℕ)). afterHead 0 + length (voiceBlocks x)) (sym v);
           count = omega (arith, n, o, f, at-count s at left there);
           ends = omega (arith, i, j, k, b .at, at-long s at left there);
           within = there;

@@ -28,7 +28,13 @@ made-long heading ps =
     let b = length-append (voiceBlocks ps) (endBlock (length (framesIn ps))) in
     omega (arith, a, b)
 
--- blocks of whole frames take at most 24 bytes a frame
+-- blocks of whole frames take at least a byte a frame
+pub blocks-least : (ps : List (List ℕ)) → Sized ps → length (framesIn ps) ≤ length (voiceBlocks ps)
+blocks-least _ none = omega (arith, frames-in-none)
+blocks-least _ (more p ps a b z) =
+    let r = blocks-least ps z in omega (arith, r, blocks-more p ps, frames-in-more p ps)
+
+-- and at most 24
 pub blocks-most : (ps : List (List ℕ)) → Sized ps → length (voiceBlocks ps) ≤ 24 * length (framesIn ps)
 blocks-most _ none = omega (arith, blocks-none)
 blocks-most _ (more p ps a b z) =

@@ -1,8 +1,10 @@
--- Every statement under the three demands has its proof.
+-- Every statement under the three demands, and of the salvage tool, has its proof.
 -- Assumes nothing.
 use Rattle.listing.proofs.Laws as listing
 use Rattle.listing.proofs.Short as short
-use Rattle.promises.specs.Demands.{DemandOne, DemandTwo, DemandThree}
+use Rattle.salvage.proofs.Laws as salvage
+use Rattle.changes.proofs.Laws as changes
+use Rattle.promises.specs.Demands.{DemandOne, DemandTwo, DemandThree, SalvageTool}
 use Rattle.promises.proofs.Frames as frames
 use Rattle.promises.proofs.Functions as functions
 use Rattle.promises.proofs.Worked as worked
@@ -53,6 +55,8 @@ demand-one =
       refused-has-none = parts.refused-has-none;
       empty-refused = parts.empty-refused;
       refused-listing-stays = listing.refused-listing-stays;
+      salvage-refuses = salvage.salvage-refuses;
+      salvage-stands = salvage.salvage-stands;
     }
 
 pub demand-two : DemandTwo
@@ -126,4 +130,18 @@ demand-three =
       two-never-mended = repairs.two-never-mended;
       unguarded-unseen = repairs.unguarded-unseen;
       three-unseen = repairs.three-unseen;
+    }
+
+pub salvage-tool : SalvageTool
+salvage-tool =
+    record {
+      kept-up-to-refusal = salvage.kept-up-to-refusal;
+      fewest-go = salvage.fewest-go;
+      no-empty-block = salvage.no-empty-block;
+      kept-stands = salvage.kept-stands;
+      salvaged-accepted = salvage.salvaged-accepted;
+      salvaged-again = salvage.salvaged-again;
+      sound-unchanged = salvage.sound-unchanged;
+      changes-told = changes.changes-told;
+      changes-fit = changes.changes-fit;
     }

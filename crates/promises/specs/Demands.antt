@@ -1,7 +1,10 @@
--- The three demands, in the words of the person this is built for, and under each the statements that meet it. A
--- reviewer starts here:
+-- The three demands, in the words of the person this is built for, and under each the statements that meet it; then what
+-- is promised of the salvage tool. A reviewer starts here:
 -- each name below is a statement of the file beside it, and proofs/Demands.antt holds a proof of every one.
 use Rattle.listing.specs.Promised.{ListingFits, ListingStands, FaultsListed, RefusedListingStays}
+use Rattle.salvage.specs.Promised.{SalvageRefuses, SalvageStands, SalvagedAccepted, KeptUpToRefusal, SoundUnchanged}
+use Rattle.salvage.specs.Promised.{SalvagedAgain, FewestGo, NoEmptyBlock, KeptStands}
+use Rattle.changes.specs.Promised.{ChangesTold, ChangesFit}
 use Rattle.promises.specs.Frames.{ReadsBack, SameBits, DamageAlone, OneMended, TwoReported, EveryFrameRead}
 use Rattle.promises.specs.Frames.{OneFrame, SixteenFrames}
 use Rattle.promises.specs.Functions.{WriteThenRead, ReadThenWrite, RepairByDamage, OneFlip, TwoFlips, NoTwoFrames}
@@ -72,6 +75,9 @@ pub record DemandOne : Type 0 where
   pub refused-has-none : RefusedHasNone
   pub empty-refused : EmptyRefused
   pub refused-listing-stays : RefusedListingStays
+  -- salvaging (document 02, K2)
+  pub salvage-refuses : SalvageRefuses
+  pub salvage-stands : SalvageStands
 
 -- "Reading and writing are those of Federal Standard 1016: the 144 places, the parity, the gains, delays, averaged
 -- parameters and 512 ternary codes. A record the writer accepts reads back equal. A frame that is read writes back to
@@ -154,3 +160,24 @@ pub record DemandThree : Type 0 where
   pub two-never-mended : TwoNeverMended
   pub unguarded-unseen : UnguardedUnseen
   pub three-unseen : ThreeUnseen
+
+-- Document 02, K2: "It keeps the head, every voice block before the first refusal and, where that refusal is a voice block
+-- running past the end, the whole frames that block still has; last frames go, as few as will do, if the result would pass
+-- 65,536 bytes, and no empty block is left. It writes these and a fresh end into a lent buffer of 65,536 bytes, whose bytes
+-- past that end block stay, and lists each change: bytes dropped from where, frames kept, end written. A sound recording
+-- comes out unchanged with an empty list. What it writes is always accepted."
+--
+-- When it is refused, and that the bytes past the end block stay, stands under demand 1.
+pub record SalvageTool : Type 0 where
+  -- what is kept
+  pub kept-up-to-refusal : KeptUpToRefusal
+  pub fewest-go : FewestGo
+  pub no-empty-block : NoEmptyBlock
+  pub kept-stands : KeptStands
+  -- what is written
+  pub salvaged-accepted : SalvagedAccepted
+  pub salvaged-again : SalvagedAgain
+  pub sound-unchanged : SoundUnchanged
+  -- what is told
+  pub changes-told : ChangesTold
+  pub changes-fit : ChangesFit

@@ -23,7 +23,7 @@ use Rattle.kept.specs.Keeping.{framesAt, firstFrames}
 use Rattle.salvage.specs.Steps.{bytesBefore}
 use Rattle.kept.specs.Steps.{reachOf}
 use Rattle.kept.specs.declared.Keep.{Keep}
-use Rattle.kept.proofs.First.{first-none, first-more}
+use Rattle.kept.proofs.First.{take-least, first-none, first-more}
 
 -- a header and two numbers are a head
 pub head-put : (o : List ℕ) (h : Heading) {o₁ o₂ o₃ : List ℕ} {a₁ a₂ a₃ : ℕ}
@@ -141,21 +141,9 @@ module _ {o : List ℕ} {start : ℕ} {s : List ℕ} {frames : ℕ} {out : List 
 
       -- the payload that is laid
       payload : part s (at + 6) kept ≡ take (18 * (left / 18)) (part s (at + 6) (rest + 18))
-      payload = go (decLe left (rest + 18))
-        where
-          b : 18 * (left / 18) ≡ left
-          b = omega (arith, p .whole)
-
-          go : Dec (left ≤ rest + 18) → part s (at + 6) kept ≡ take (18 * (left / 18)) (part s (at + 6) (rest + 18))
-          go (yes m) =
-              let n : kept ≡ left = omega arith in
-              ap (part s (at + 6)) (n ∙ sym b)
-              ∙ sym (take-take (18 * (left / 18)) (rest + 18) (drop (at + 6) s) (omega (arith, b)))
-          go (no m) =
-              let n : kept ≡ rest + 18 = omega arith in
-              let f = length-take (rest + 18) (drop (at + 6) s) in
-              ap (part s (at + 6)) n
-              ∙ sym (take-all (18 * (left / 18)) (part s (at + 6) (rest + 18)) (omega (arith, b, f)))
+      payload =
+          let e : kept ≡ min (18 * (left / 18)) (rest + 18) = omega (arith, k, p .whole) in
+          ap (part s (at + 6)) e ∙ sym (take-least (18 * (left / 18)) (rest + 18) (drop (at + 6) s))
 
       -- the block and the rest of the blocks
       blocks-on : blocksTo s at (left / 18)

@@ -1,7 +1,7 @@
 -- What is laid is the result, and what is answered is what was planned.
 -- Assumes nothing.
 use mathlib.Core.Path.{_≡_, _∙_, sym, refl, ap, ap₂, subst}
-use mathlib.Core.Bool.{cond}
+use mathlib.Core.Bool.{Bool, true, false, cond}
 use mathlib.Core.List.{List, _++_, append-assoc}
 use Prim.Native.Nat.{ℕ, zero, suc, _+_, _-_, _<_, _≤_}
 use native.Mathlib.Omega.{arith}
@@ -22,8 +22,8 @@ use Rattle.kept.specs.declared.Plan.the-variants.{Written, Nothing}
 use Rattle.kept.specs.declared.Unsalvaged.{Unsalvaged}
 use Rattle.kept.proofs.First.{Sized, first-all, first-less}
 use Rattle.kept.proofs.Keeps.{blocks-join, Kept}
-use Rattle.kept.proofs.Most.{made-long, most-fits}
-use Rattle.kept.proofs.Plans.{kept-count, kept-rest, kept-voices, Planned, plan-written}
+use Rattle.kept.proofs.Most.{made-long, blocks-least, most-fits}
+use Rattle.kept.proofs.Plans.{kept-count, kept-upto, kept-rest, kept-voices, Planned, plan-written}
 use Rattle.salvage.specs.Salvaging.{resultOf, endOf, changesOf, answerOf, salvageOf, leftBy, bufferOf, longOf}
 use Rattle.salvage.specs.Steps.{bytesBefore, changesBy, answerBy}
 use Rattle.salvage.specs.declared.Changes.{Changes}
@@ -75,7 +75,7 @@ unfolding resultOf
 result-long s = made-long (walkedOf s .walk .heading) (voicesKept s)
 
 -- where something is planned, the result is left in the buffer
-left-kept : (s o : List ℕ) (k : Keep)
+pub left-kept : (s o : List ℕ) (k : Keep)
     → leftBy (answerOf s (Written k)) (resultOf s) o ≡ resultOf s ++ drop (length (resultOf s)) o
 left-kept s o k =
     chosen (λ (x : Salvaged). leftBy x (resultOf s) o ≡ resultOf s ++ drop (length (resultOf s)) o) (k .sound)
@@ -199,3 +199,40 @@ result-within s o o′ x long e b l = go (planOf s (length o)) refl
         let n : long ≡ longOf (length s) (answerOf s (Written k))
         = by ∙ ap (λ (y : Plan). longOf (length s) (answerOf s y)) i in
         omega (arith, m, n, p .buffer, room)
+
+-- the numbers of some changes are no larger than a recording is long
+pub record Small (c : Changes) : Type 0 where
+  pub dropped : c .dropped ≤ longest
+  pub from : c .from ≤ longest
+  pub frames : c .frames ≤ longest
+  pub end : c .end ≤ longest
+
+small : (s : List ℕ) → length s ≤ longest → Kept s (walkedOf s .walk) (leftAt s (walkedOf s .ending))
+    → Small (changesOf s)
+unfolding changesOf
+small s l t =
+    let w = end-within s l t in
+    let u = kept-upto s l t in
+    let b = blocks-least (keptOf s) (t .sized) in
+    let e = t .ends in
+    let i = t .within in
+    record {
+      dropped = omega (arith, l);
+      from = omega (arith, l, w);
+      frames = omega (arith, l, u, b, e, i);
+      end = omega (arith, l, w);
+    }
+
+-- so they are of every recording that is mended
+pub changes-small : (s : List ℕ) (room : ℕ) (c : Changes) → salvageOf s room ≡ Mended c → Small c
+unfolding salvageOf
+changes-small s room c e = go (planOf s room) refl e
+  where
+    mended : (b : Bool) → cond b Sound (Mended (changesOf s)) ≡ Mended c → Small (changesOf s) → Small c
+    mended true a m = absurd (let z : _≡_ {A = ℕ} 0 1 = cc in omega arith)
+    mended false a m = let q : changesOf s ≡ c = cc in subst Small q m
+
+    go : (x : Plan) → planOf s room ≡ x → answerOf s x ≡ Mended c → Small c
+    go (Nothing why) i a = absurd (let z : _≡_ {A = ℕ} 0 1 = cc in omega arith)
+    go (Written k) i a =
+        mended (k .sound) a (small s (plan-written s room k i .short) (plan-written s room k i .kept))

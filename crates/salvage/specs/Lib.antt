@@ -1,2 +1,3 @@
 pub mod Salvaging
 pub mod Steps
+pub mod Promised
