@@ -1,5 +1,4 @@
--- Blocks laid one after the other: a head, a voice block, an end; and the voice blocks of a recording, as far as some
--- frames reach.
+-- Blocks laid one after the other: the voice blocks of a recording, as far as some frames reach, and the whole.
 -- Assumes nothing.
 use mathlib.Core.Path.{_≡_, _∙_, sym, refl, ap, ap₂, subst}
 use mathlib.Core.List.{List, [], _∷_, _++_, append-assoc, append-nil}
@@ -18,32 +17,18 @@ use Rattle.blocks.specs.Made.{wordBytes, block, headBlock, voiceBlocks, endBloc
 use Rattle.blocks.proofs.Frames.{no-voice, first-frame}
 use Rattle.blocks.proofs.Voices.{voice-sized, voices-none, voices-more}
 use Rattle.blocks.specs.declared.Found.the-variants.{At, Nothing}
-use Rattle.blocks.specs.declared.Heading.{Heading}
 use Rattle.kept.specs.Keeping.{framesAt, firstFrames}
 use Rattle.salvage.specs.Steps.{bytesBefore}
 use Rattle.kept.specs.Steps.{reachOf}
 use Rattle.kept.specs.declared.Keep.{Keep}
 use Rattle.kept.proofs.First.{take-least, first-none, first-more}
 
--- a header and two numbers are a head
-pub head-put : (o : List ℕ) (h : Heading) {o₁ o₂ o₃ : List ℕ} {a₁ a₂ a₃ : ℕ}
-    → Put o 0 (8 ∷ 0 ∷ 0 ∷ 0 ∷ 1 ∷ 0 ∷ []) a₁ o₁ → Put o₁ a₁ (wordBytes (h .unit)) a₂ o₂
-    → Put o₂ a₂ (wordBytes (h .number)) a₃ o₃ → Put o 0 (headBlock h) a₃ o₃
-head-put o h p q r =
-    put-then o 0 ((8 ∷ 0 ∷ 0 ∷ 0 ∷ 1 ∷ 0 ∷ []) ++ wordBytes (h .unit)) (wordBytes (h .number))
-    (put-then o 0 (8 ∷ 0 ∷ 0 ∷ 0 ∷ 1 ∷ 0 ∷ []) (wordBytes (h .unit)) p q) r
-
--- a header and a number are an end
-pub end-put : (o : List ℕ) (at frames : ℕ) {o₁ o₂ : List ℕ} {a₁ a₂ : ℕ} → Put o at (4 ∷ 0 ∷ 0 ∷ 0 ∷ 3 ∷ 0 ∷ []) a₁ o₁
-    → Put o₁ a₁ (wordBytes frames) a₂ o₂ → Put o at (endBlock frames) a₂ o₂
-end-put o at frames p q = put-then o at (4 ∷ 0 ∷ 0 ∷ 0 ∷ 3 ∷ 0 ∷ []) (wordBytes frames) p q
-
--- a size, a kind and a payload are a voice block
-pub voice-put : (o : List ℕ) (at : ℕ) (p : List ℕ) {o₁ o₂ o₃ : List ℕ} {a₁ a₂ a₃ : ℕ}
-    → Put o at (wordBytes (length p)) a₁ o₁ → Put o₁ a₁ (2 ∷ 0 ∷ []) a₂ o₂ → Put o₂ a₂ p a₃ o₃
-    → Put o at (block 2 p) a₃ o₃
-voice-put o at p a b c =
-    put-then o at (wordBytes (length p) ++ (2 ∷ 0 ∷ [])) p (put-then o at (wordBytes (length p)) (2 ∷ 0 ∷ []) a b) c
+-- a header and a payload of that size are a voice block
+pub voice-put : (o : List ℕ) (at size : ℕ) (p : List ℕ) {o₁ o₂ : List ℕ} {a₁ a₂ : ℕ} → size ≡ length p
+    → Put o at (wordBytes size ++ (2 ∷ 0 ∷ [])) a₁ o₁ → Put o₁ a₁ p a₂ o₂ → Put o at (block 2 p) a₂ o₂
+voice-put o at size p e a b =
+    put-as o at ((wordBytes size ++ (2 ∷ 0 ∷ [])) ++ p) (block 2 p)
+    (ap (λ (n : ℕ). (wordBytes n ++ (2 ∷ 0 ∷ [])) ++ p) e) (put-then o at (wordBytes size ++ (2 ∷ 0 ∷ [])) p a b)
 
 -- ---- the loop of `put_voices`
 

@@ -12,7 +12,7 @@ ghost use lib.ListN.{length};
 ghost use Rattle.text.specs.Laid.{laid, after};
 ghost use Rattle.blocks.specs.Walk.{longest, afterHead};
 ghost use Rattle.blocks.specs.Frames.{voicesFrom};
-ghost use Rattle.blocks.specs.Made.{wordBytes, block, headBlock, voiceBlocks, endBlock};
+ghost use Rattle.blocks.specs.Made.{block, headBlock, voiceBlocks, endBlock};
 ghost use Rattle.kept.specs.Keeping.{framesAt, firstFrames};
 ghost use Rattle.kept.specs.Steps.{reachOf};
 ghost use Rattle.salvage.specs.Salvaging.{salvageOf, bufferOf};
@@ -96,9 +96,25 @@ fn put_head(out: &mut [u8], heading: Heading) -> usize
     ensures { λ r. ⌜ r ≡ after (now (out .entry)) 0 (headBlock heading) ⌝ }
     ensures { λ _. ⌜ now (out .exit) ≡ laid (now (out .entry)) 0 (headBlock heading) ⌝ }
 {
-    let header = text::put_word(out, 0, b"\x08\x00\x00\x00\x01\x00");
-    let unit = put_number(out, header, heading.unit);
-    put_number(out, unit, heading.number)
+    let unit = heading.unit;
+    let number = heading.number;
+    let bytes = [
+        8,
+        0,
+        0,
+        0,
+        1,
+        0,
+        (unit % 256) as u8,
+        (unit / 256 % 256) as u8,
+        (unit / 256 / 256 % 256) as u8,
+        (unit / 256 / 256 / 256) as u8,
+        (number % 256) as u8,
+        (number / 256 % 256) as u8,
+        (number / 256 / 256 % 256) as u8,
+        (number / 256 / 256 / 256) as u8,
+    ];
+    text::put_word(out, 0, &bytes)
 }
 
 // Lays the voice blocks from behind the head on, as far as so many frames reach.
@@ -118,7 +134,7 @@ fn put_voices(out: &mut [u8], start: usize, s: &[u8], frames: u32) -> usize
                 let size = rest + 18;
                 let kept = text::least(size, left);
                 let to = first + kept;
-                end = put_voice(out, end, &s[first..to]);
+                end = put_voice(out, end, kept, &s[first..to]);
                 at = first + size;
                 left -= kept;
             }
@@ -139,18 +155,27 @@ fn put_rest(out: &mut [u8], end: usize, s: &[u8], at: usize, frames: u32) -> usi
         return end;
     }
     let from = at + 6;
-    let to = from + 18 * frames as usize;
-    put_voice(out, end, &s[from..to])
+    let size = 18 * frames as usize;
+    let to = from + size;
+    put_voice(out, end, size, &s[from..to])
 }
 
-// Lays a voice block.
-fn put_voice(out: &mut [u8], at: usize, payload: &[u8]) -> usize
-    requires { ⌜ length (now payload) ≤ longest ⌝ }
+// Lays a voice block of so many bytes.
+fn put_voice(out: &mut [u8], at: usize, size: usize, payload: &[u8]) -> usize
+    requires { ⌜ size ≡ length (now payload) ⌝ }
+    requires { ⌜ size ≤ longest ⌝ }
     ensures { λ r. ⌜ r ≡ after (now (out .entry)) at (block 2 (now (payload .entry))) ⌝ }
     ensures { λ _. ⌜ now (out .exit) ≡ laid (now (out .entry)) at (block 2 (now (payload .entry))) ⌝ }
 {
-    let size = put_number(out, at, payload.len() as u32);
-    let header = text::put_word(out, size, b"\x02\x00");
+    let bytes = [
+        (size % 256) as u8,
+        (size / 256 % 256) as u8,
+        (size / 256 / 256 % 256) as u8,
+        (size / 256 / 256 / 256) as u8,
+        2,
+        0,
+    ];
+    let header = text::put_word(out, at, &bytes);
     text::put_word(out, header, payload)
 }
 
@@ -159,20 +184,17 @@ fn put_end(out: &mut [u8], at: usize, frames: u32) -> usize
     ensures { λ r. ⌜ r ≡ after (now (out .entry)) at (endBlock frames) ⌝ }
     ensures { λ _. ⌜ now (out .exit) ≡ laid (now (out .entry)) at (endBlock frames) ⌝ }
 {
-    let header = text::put_word(out, at, b"\x04\x00\x00\x00\x03\x00");
-    put_number(out, header, frames)
-}
-
-// Lays a number in four bytes, the lowest first.
-fn put_number(out: &mut [u8], at: usize, n: u32) -> usize
-    ensures { λ r. ⌜ r ≡ after (now (out .entry)) at (wordBytes n) ⌝ }
-    ensures { λ _. ⌜ now (out .exit) ≡ laid (now (out .entry)) at (wordBytes n) ⌝ }
-{
     let bytes = [
-        (n % 256) as u8,
-        (n / 256 % 256) as u8,
-        (n / 256 / 256 % 256) as u8,
-        (n / 256 / 256 / 256) as u8,
+        4,
+        0,
+        0,
+        0,
+        3,
+        0,
+        (frames % 256) as u8,
+        (frames / 256 % 256) as u8,
+        (frames / 256 / 256 % 256) as u8,
+        (frames / 256 / 256 / 256) as u8,
     ];
     text::put_word(out, at, &bytes)
 }

@@ -48,7 +48,8 @@ fn salvage(s: &[u8]) -> bool {
     if !io::write_all(STDOUT_FILENO, &result[..long]) {
         return false;
     }
-    tell(salvaged)
+    tell(salvaged);
+    true
 }
 
 // The length of the result of so many bytes; a refusal has none.
@@ -63,10 +64,10 @@ fn length(long: usize, salvaged: Salvaged) -> usize
 }
 
 // Tells what was changed.
-fn tell(salvaged: Salvaged) -> bool {
+fn tell(salvaged: Salvaged) {
     let mut lines = [0u8; 128];
     let end = changes::put(&mut lines, 0, salvaged);
-    io::write_all(STDERR_FILENO, &lines[..end])
+    io::write_all(STDERR_FILENO, &lines[..end]);
 }
 
 // Room for the longest recording.

@@ -1,5 +1,5 @@
 use native.Mathlib.Omega.{arith}
-use lib.ListN.{length-take}
+use lib.ListN.{length-take, length-drop}
 use borrow.Author.Needs.{needs}
 use Rattle.text.proofs.Laid.{put-length}
 use Rattle.salvage.proofs.Puts.{rest-none, rest-put, rest-within}
@@ -25,7 +25,8 @@ put-voice-requires : tie.Need-put-voice-requires
 put-voice-requires c κs =
     let e = c .before .before in
     let p = e .before .before .before .pre in
-    simp length-take (omega (arith, rest-within _ _ _ (p .1 .1) (e .if1 .left), p .1 .0))
+    let w = rest-within _ _ _ (p .1 .1) (e .if1 .left) in
+    (simp (length-take, length-drop) (omega (arith, w)), omega (arith, w, p .1 .0))
 
 returns-2 : tie.Need-returns-2
 returns-2 c =

@@ -5,15 +5,12 @@ use Rattle.salvage.proofs.Puts.{voice-put}
 use Rattle.salvage.proofs.put_voice.Statement.{statement}
 use Rattle.salvage.proofs.put_voice.Tie as tie
 
-cast-put-number : tie.Need-cast-put-number
-cast-put-number c = omega (arith, c .before .before .before .pre)
-
 returns : tie.Need-returns
 returns c =
     let p = c .before .before in
     let h = p .before .before .before .before in
-    let n = h .before .before .before .before .before in
-    voice-put _ _ _ (n .put-number .ensures) (h .put-word .ensures) (p .put-word2 .ensures)
+    let s = h .before .before .before .before .before in
+    voice-put _ _ (s .args .size) _ (s .pre .0) (h .put-word .ensures) (p .put-word2 .ensures)
 
 same-length : tie.Need-same-length
 same-length c = put-length _ _ _ (returns c)
@@ -21,4 +18,5 @@ same-length c = put-length _ _ _ (returns c)
 pub put-voice-spec : {M : Type 1} → statement M
 put-voice-spec =
     tie.close
-    (tie.spec cast-put-number (λ c κs. tt) (search needs) (λ c κs. tt) (λ c κs. tt) same-length returns)
+    (tie.spec (λ c. omega arith) (λ c. omega arith) (λ c. omega arith) (λ c. omega (arith, c .before .before .pre .1))
+    (search needs) (λ c κs. tt) (λ c κs. tt) same-length returns)

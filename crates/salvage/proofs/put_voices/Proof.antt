@@ -1,7 +1,7 @@
 use mathlib.Core.Path.{_∙_, sym}
 use Prim.Native.Nat.{_+_}
 use native.Mathlib.Omega.{arith}
-use lib.ListN.{length-take}
+use lib.ListN.{length-take, length-drop}
 use borrow.Author.Needs.{needs}
 use Rattle.salvage.proofs.Puts.{found-voice, Laying, laying-start, laying-done, laying-none, laying-on}
 use Rattle.salvage.proofs.put_voices.Statement.{statement}
@@ -52,8 +52,10 @@ put-voice-requires : tie.Need-put-voice-requires Inv-loop μ-loop
 put-voice-requires c κs =
     let e = c .before .before in
     let f = e .before .before .before .before in
-    let t = found-voice _ _ _ _ (sym (f .find .ensures) ∙ e .before .before .first .given .1) in
-    simp length-take (omega (arith, t .fits, e .least .ensures, f .before .before .before .before .before .pre .1))
+    let t = found-voice _ _ _ _ (sym (f .find .ensures) ∙ e .before .before .first .given .1) in (
+      simp (length-take, length-drop) (omega (arith, t .fits, e .least .ensures)),
+      omega (arith, t .fits, e .least .ensures, f .before .before .before .before .before .pre .1),
+    )
 
 add-at : tie.Need-add-at Inv-loop μ-loop
 add-at c =
