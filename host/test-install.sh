@@ -46,7 +46,7 @@ says() {
 command -v pkg-config > /dev/null || fail "pkg-config is not there (Debian: apt-get install pkg-config)"
 functions=$(sed -n 's/^[a-z].*[ *]\(oatlantern_[a-z_]*\)(.*/\1/p' ../include/oatlantern.h)
 version=$(sed -n 's/^.define OATLANTERN_VERSION "\(.*\)"$/\1/p' ../include/oatlantern.h)
-programs='decode encode list hear'
+programs='decode encode list hear salvage'
 
 # ---- What is installed ----
 
@@ -58,8 +58,9 @@ for p in $programs; do
     holds "oatlantern-$p was not installed" test -x "$tmp/usr/bin/oatlantern-$p"
     holds "oatlantern-$p.1 was not installed" test -f "$tmp/usr/share/man/man1/oatlantern-$p.1"
 done
-for p in list hear; do
-    holds "oatlantern-$p is not what rt built" cmp ../target/bin/$p "$tmp/usr/bin/oatlantern-$p"
+# of those in Rattle: the crate, and the name
+for p in list:list hear:hear salvager:salvage; do
+    holds "oatlantern-${p#*:} is not what rt built" cmp ../target/bin/"${p%:*}" "$tmp/usr/bin/oatlantern-${p#*:}"
 done
 
 # ---- The manual pages ----
@@ -104,7 +105,20 @@ for p in $programs; do
         examples=$((examples + 1))
     done
 done
-[ $examples -ge 9 ] || fail "only $examples examples were found"
+[ $examples -ge 14 ] || fail "only $examples examples were found"
+
+# the programs in Rattle say by their installed names what is wrong around them, and write nothing
+for p in list hear salvage; do
+    usage="usage: oatlantern-$p <recording"
+    [ $p != salvage ] || usage="$usage >salvaged"
+    says "$p: an argument" "$usage" sh -c '"$0" FILE 2>&1 < "$1"' "$tmp/path/oatlantern-$p" "$root/samples/dropped-later.rec"
+    says "$p: an input that cannot be read" "oatlantern-$p: standard input cannot be read" sh -c '"$0" 2>&1 < .' "$tmp/path/oatlantern-$p"
+    for output in '>&-' '> /dev/full'; do
+        [ "$output" = '>&-' ] || [ -e /dev/full ] || continue
+        says "$p: $output" "oatlantern-$p: standard output cannot be written" \
+            sh -c "\"\$0\" 2>&1 < \"\$1\" $output" "$tmp/path/oatlantern-$p" "$root/samples/dropped-later.rec"
+    done
+done
 
 # ---- Programs on what was installed ----
 

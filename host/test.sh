@@ -1,6 +1,7 @@
 #!/bin/sh
 # Tries the header and the host programs, the latter as built and again under the sanitizers (tools.sh says which): there and back, the
-# refusals, malformed and very long lines. Silent but for the last line; exit status 1 at the first fault.
+# refusals, malformed and very long lines. Then the salvaging program, which rt builds: on each sample, what it says where it refuses, and
+# an argument, an input and outputs that fail. Silent but for the last line; exit status 1 at the first fault.
 set -eu
 cd "$(dirname "$0")"
 . ./tools.sh
@@ -224,6 +225,47 @@ for bin in $out $out/sanitized; do
         checks=$((checks + 2))
     fi
 done
+
+# The salvaging program on each sample: the changes, and the result, which is the recording itself where nothing was changed and nothing
+# where it is refused. A result comes out unchanged.
+bin=../target/bin
+make -s $bin/salvager > "$tmp/log" 2>&1 || { cat "$tmp/log" >&2; fail "make salvager"; }
+for recording in ../samples/*.rec; do
+    name=${recording%.rec}
+    "$run" $bin/salvager < "$recording" > "$tmp/got" 2> "$tmp/said" || fail "salvager: $recording: status $?"
+    same "salvager: $recording: the changes" "$name.changes" "$tmp/said"
+    wanted=/dev/null
+    [ -s "$name.changes" ] || wanted=$recording
+    [ ! -e "$name.salvaged" ] || wanted=$name.salvaged
+    same "salvager: $recording: the result" "$wanted" "$tmp/got"
+    [ -s "$tmp/got" ] || continue
+    "$run" $bin/salvager < "$tmp/got" > "$tmp/again" 2> "$tmp/said" || fail "salvager: $recording: status $? on the result"
+    same "salvager: $recording: changes of the result" /dev/null "$tmp/said"
+    same "salvager: $recording: the result once more" "$tmp/got" "$tmp/again"
+done
+
+# salvager_says WHAT LINE COMMAND..: it writes nothing, says exactly this one line and ends with 0
+salvager_says() {
+    what=$1
+    printf '%s\n' "$2" > "$tmp/wanted"
+    shift 2
+    "$@" > "$tmp/got" 2> "$tmp/said" || fail "salvager: $what: status $?"
+    same "salvager: $what: what it says" "$tmp/wanted" "$tmp/said"
+    same "salvager: $what: it writes something" /dev/null "$tmp/got"
+}
+dropped=../samples/dropped-later.rec
+unwritten='oatlantern-salvage: standard output cannot be written'
+head -c 65537 /dev/zero > "$tmp/in"
+salvager_says "too long" 'refused 1' "$run" $bin/salvager < "$tmp/in"
+head -c 65536 /dev/zero > "$tmp/in"
+salvager_says "no head" 'refused 12' "$run" $bin/salvager < "$tmp/in"
+salvager_says "an argument" 'usage: oatlantern-salvage <recording >salvaged' "$run" $bin/salvager $dropped < $dropped
+salvager_says "an input that cannot be read" 'oatlantern-salvage: standard input cannot be read' "$run" $bin/salvager < .
+salvager_says "a closed output" "$unwritten" sh -c '"$@" >&-' sh "$run" $bin/salvager < $dropped
+if [ -e /dev/full ]; then
+    salvager_says "a full output" "$unwritten" sh -c '"$@" > /dev/full' sh "$run" $bin/salvager < $dropped
+    salvager_says "a full output, of a sound recording" "$unwritten" sh -c '"$@" > /dev/full' sh "$run" $bin/salvager < ../samples/sound.rec
+fi
 
 [ $checks -gt 0 ] || fail "nothing was checked"
 echo "host/test.sh: $checks checks, 0 failed"
