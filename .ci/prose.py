@@ -2,15 +2,17 @@
 """Holds numbers and listings in prose to the definitions and to what the programs print.
 
     prose.py                    the programs are those that rt and host/Makefile build
-    prose.py --with PROGRAM     the independent program stands in for `list` and `hear`, but where they are given an argument
+    prose.py --with PROGRAM     the independent program stands in for `list`, `hear` and `salvager`, but where they are given an argument
 
 Listings. In a code block of a page, and in an example of a manual page, a line `$ COMMAND` is followed by what it prints. Each command is
 run and compared (of `rt check NAMES && COMMAND` the second), but those of NOT_RUN, which show nothing, and those of a manual page that
-show nothing. A line that looks like a listing's and follows no command is a fault. A manual page's recordings are those of samples/.
+show nothing. Standard error is shown too; a command may write below target/ and nowhere else. A line that looks like a listing's or a
+change's and follows no command is a fault, and so is one in a sentence that nothing prints. A manual page's recordings are those of samples/.
 Tables. The handbook's correction numbers, refusals and delays, and the two tables of samples/README.md, are compared with the specs, the
-place table and the files. So are sentences of a regular form: a place with its name, places that show a number, a frame and its time.
+place table and the files. So are sentences of a regular form: a place with its name, places that show a number, a frame and its time, the
+length that four bytes are.
 Names. A path or a `crate::name` that the README, the handbook, the samples' page or CHANGING names is there.
-A page that must show a listing and shows none, and a form of sentence that stands nowhere, is a fault too: so that rewording cannot let a
+A page that must show what a program prints and does not, and a form of sentence that stands nowhere, is a fault too: so that rewording cannot let a
 number go. A fault is named by file and line. The last line is `N cases`; the exit is 1 where there is a fault.
 """
 
@@ -24,11 +26,14 @@ ROOT = Path(__file__).resolve().parent.parent
 PAGES = ["README.md", "CHANGELOG.md", "docs/*.md", "docs/landings/*.md", "samples/README.md", "outside/*.md"]
 MANUAL = ["host/*.1", "host/*.3"]
 NAMING = ["README.md", "docs/HANDBOOK.md", "docs/CHANGING.md", "samples/README.md"]
-SHOWING = ["README.md", "docs/HANDBOOK.md", "samples/README.md", "host/oatlantern-list.1", "host/oatlantern-decode.1"]
+SHOWING = {"README.md": ["list"], "docs/HANDBOOK.md": ["list", "hear", "salvager"], "samples/README.md": ["list", "salvager"],
+           "host/oatlantern-list.1": ["list"], "host/oatlantern-hear.1": ["hear"], "host/oatlantern-salvage.1": ["salvager"],
+           "host/oatlantern-decode.1": ["oatlantern-decode"]}
 NOT_RUN = re.compile(r"rt |\.ci/run|cargo |make |cc |git |samples/make\.py |\.ci/prose\.py|python3 ")
 RUN = re.compile(r"(\./run target/\S+|oatlantern-\w+|head|sed -n|cut|tail|od|wc|cmp|diff|printf|echo)\b")
+CHANGE = r"dropped \d+ bytes from \d+|kept \d+ frames|end written at \d+"
 LISTING = re.compile(r"unit \d+ recording \d+ frames \d+|\d+ \d+ (refused \d+|\d+ [01]( \d+){4})|repaired \d+ breaks \d+|refused \d+ at \d+( \d+)?"
-                     r"|frame \d+( \d+){28} .*")
+                     rf"|frame \d+( \d+){{28}} .*|block( \d+){{3}}|{CHANGE}")
 independent = Path(sys.argv[2]).resolve() if sys.argv[1:2] == ["--with"] else None
 cases, faults = 0, []
 
@@ -80,7 +85,8 @@ def cases_of(word):
     return found
 
 
-REFUSALS = {case: {int(n) for n in said if n.isdigit() and int(n)} for case, said in cases_of("[rR]efusal").items()}
+# the refusals of salvaging have their numbers under the name numberOf
+REFUSALS = {case: {int(n) for n in said if n.isdigit() and int(n)} for case, said in cases_of("(?:[rR]efusal|numberOf)").items()}
 REFUSALS = {case: numbers for case, numbers in REFUSALS.items() if numbers}
 TELLS = cases_of("(?:[tT]ells|[tT]old)")
 
@@ -111,8 +117,13 @@ def blocks(path):
 def built(command):
     """The command with the programs where they are built."""
     command = re.sub(r"\boatlantern-(list|hear)\b", r"./run target/bin/\1", command)
-    command = re.sub(r"(?<!/)\boatlantern-(decode|encode)\b", r"./run target/host/oatlantern-\1", command)
-    return re.sub(r"\./run target/bin/(list|hear)\b", rf"{independent} \1", command) if independent else command
+    command = re.sub(r"\boatlantern-salvage\b", r"./run target/bin/salvager", command)
+    return re.sub(r"(?<!/)\boatlantern-(decode|encode)\b", r"./run target/host/oatlantern-\1", command)
+
+
+def stood_in(command):
+    """The same with the independent program, where there is one, for those that it stands in for."""
+    return re.sub(r"\./run target/bin/(list|hear|salvage)r?\b", rf"{independent} \1", command) if independent else command
 
 
 def file_of(path, command):
@@ -121,7 +132,7 @@ def file_of(path, command):
 
 
 showing = set()
-printed = {line for path in pages(["samples/*.list"]) for line in read(path).splitlines()}
+printed = {line for suffix in ("list", "hear", "changes") for path in pages([f"samples/*.{suffix}"]) for line in read(path).splitlines()}
 for path in pages(PAGES) + pages(MANUAL):
     for block in blocks(path):
         asked = [i for i, (_, line) in enumerate(block) if line.startswith("$ ")]
@@ -138,22 +149,28 @@ for path in pages(PAGES) + pages(MANUAL):
             if not all(RUN.match(part.strip()) for part in command.split("|")):
                 hold(False, path, n, f"`{command}` is not a command that is known here")
                 continue
-            if independent and re.search(r"\b(oatlantern-|target/bin/)(list|hear) +[^<|\s]", command):
+            written = [file for file in re.findall(r">\s*([^\s&|]+)", command) if not re.match(r"target/[\w-]+\.rec$|/dev/null$", file)]
+            hold(not written, path, n, f"`{command}` writes {written}")
+            if written or independent and re.search(r"\b(oatlantern-|target/bin/)(list|hear|salvager?) +[^<>|\s]", command):
                 continue
-            showing.add(path)
-            ran = subprocess.run(["sh", "-c", f"({built(file_of(path, command))}) 2>&1"], cwd=ROOT, stdout=subprocess.PIPE)
+            run = built(file_of(path, command))
+            showing.update((path, program) for program in re.findall(r"\./run target/\w+/([\w-]+)", run))
+            ran = subprocess.run(["sh", "-c", f"({stood_in(run)}) 2>&1"], cwd=ROOT, stdout=subprocess.PIPE)
             got = ran.stdout.decode("utf-8", "replace").splitlines()
             printed.update(got)
             for k in range(max(len(got), len(shown))):
                 is_shown, is_printed = (said[k] if k < len(said) else "nothing more" for said in (shown, got))
                 hold(is_shown == is_printed, path, block[min(i + 1 + k, j - 1)][0], f"shows `{is_shown}`, but `{command}` prints `{is_printed}`")
 
-for path in SHOWING:
-    hold(path in showing, path, 1, "shows no listing that could be compared")
+for path, programs in SHOWING.items():
+    for program in programs:
+        hold((path, program) in showing, path, 1, f"shows nothing that {program} prints and that could be compared")
 for path in pages(PAGES) + pages(MANUAL):
     for n, line in lines_of(path):
-        for said in re.findall(r"refused \d+ at \d+(?: \d+)?", line):
-            hold(said in printed, path, n, f"`{said}`: no recording of samples/ and no command on a page prints that")
+        for said in re.findall(rf"refused \d+ at \d+(?: \d+)?|{CHANGE}", line) + re.findall(r"`([^`]+)`", line):
+            if LISTING.fullmatch(said):
+                begun = said.startswith("frame ") and any(line.startswith(said + " ") for line in printed)
+                hold(said in printed or begun, path, n, f"`{said}`: no recording of samples/ and no command on a page prints that")
         for number in re.findall(r"\brefused (\d+)\b", line):
             hold(any(int(number) in numbers for numbers in REFUSALS.values()), path, n, f"there is no refusal {number}")
         if "1, 2, 4" in line:
@@ -247,17 +264,26 @@ def shown_by(said):
     return number
 
 
+def length_in(said):
+    """The number that four bytes are, the lowest first."""
+    return int.from_bytes(bytes.fromhex(said), "little")
+
+
 # a form, and what is true in its place
 SENTENCES = [
     (rf"\b(\d+) \(({NAME})\)", lambda place, name: PLACES[int(place) - 1] == name),
     (r"[Tt]he places ((?:(?!places).){1,60}?),?(?: which)? show number (\d+)", lambda said, number: shown_by(said) == int(number)),
     (r"frame (\d+) begins ([\d.]+) seconds", lambda frame, seconds: abs((int(frame) - 1) * 0.03 - float(seconds)) < 0.001),
+    (r"(\d+) frames, ([\d.]+) seconds", lambda frames, seconds: abs(int(frames) * 0.03 - float(seconds)) < 0.001),
+    (r"(?:lasts|times|which is) (0\.\d+) seconds", lambda seconds: float(seconds) == 0.03),
+    (r"(?<!\+ )\b(\d+(?: \+ \d+)+) is (\d+)", lambda said, result: sum(map(int, said.split(" + "))) == int(result)),
+    (r"\b((?:[0-9A-F]{2} ){3}[0-9A-F]{2}) is [^.]{1,40}, which is ([\d,]+)", lambda said, length: length_in(said) == whole(length)),
     (r"room for ([\d,]+) frames", lambda frames: whole(frames) == (LONGEST - 30) // 18),
     (r"any of (\w+) pairs of hit places", lambda count: pairs == {WORDS.index(count)}),
     (r"[Tt]wo hits among the fifteen always leave at least (\w+) bit of the voice wrong", lambda count: left_wrong == WORDS.index(count)),
     (r"\b(\d+) of the 144 places of a frame are not guarded", lambda count: int(count) == 144 - len(GUARDED)),
     (r"`samples/([\w-]+)\.rec`[^`.]*?(\d+) breaks?\b", lambda name, count: read(f"samples/{name}.list").rstrip().endswith(f" breaks {count}")),
-    (r"(?:at most|[mM]ore than) ([\d,]+) bytes", lambda most: whole(most) == LONGEST),
+    (r"(?:at most|[mM]ore than|has not) ([\d,]+) bytes", lambda most: whole(most) == LONGEST),
 ]
 for form, holds in SENTENCES:
     found = 0
@@ -294,6 +320,11 @@ for n, cells in table(PAGE, "| file | bytes |"):
     for line in re.findall(r"`([^`]+)`", cells[3]):
         hold(line in listing, PAGE, n, f"`{line}` is no line of {file.stem}.list")
     hold(listing[0].startswith("refused") == (cells[3] == f"`{listing[0]}`"), PAGE, n, f"{file.name} stands in the other table")
+    changes = file.with_suffix(".changes").read_text(encoding="utf-8").splitlines()
+    said = cells[4] if len(cells) > 4 else ""
+    hold(said == ", ".join(f"`{line}`" for line in changes), PAGE, n, f"{file.stem}.changes has {changes}")
+    mended = bool(changes) and not changes[0].startswith("refused")
+    hold(file.with_suffix(".salvaged").exists() == mended, PAGE, n, f"{file.stem}.salvaged is there or not, against {file.stem}.changes")
 for file in pages(["samples/*.rec"]):
     hold(Path(file).name in told, PAGE, 1, f"{file} is not on the page")
 
