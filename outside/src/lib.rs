@@ -11,6 +11,7 @@ pub mod frame;
 pub mod gains;
 pub mod hear;
 pub mod leaves;
+pub mod lent;
 pub mod listing;
 pub mod lsp;
 

@@ -1,13 +1,13 @@
 //! The command line over the library: tables, numbers, listings, hearings, salvaging and cases.
 
-use outside::{cases, exchange, hear, leaves, listing, recording, salvage, tables, uploads};
+use outside::{cases, exchange, hear, leaves, lent, listing, recording, salvage, tables, uploads};
 use std::fs;
 use std::io::{self, Read, Write};
 use std::path::{Path, PathBuf};
 use std::process::ExitCode;
 
 const USAGE: &str =
-    "usage: outside tables | sample | list | hear | salvage | edges | recording SEED N | recordings DIR N SEED | cuts DIR | uploads DIR N SEED | leaves | leaf-cases [KIND MORE SEED] | windows DIR | exchange | exchange-cases";
+    "usage: outside tables | sample | list | hear | salvage | lent | lent-case | edges | recording SEED N | recordings DIR N SEED | cuts DIR | uploads DIR N SEED | leaves | leaf-cases [KIND MORE SEED] | windows DIR | exchange | exchange-cases";
 
 /// Recordings longer than this get no `.hear` file.
 const LONGEST_HEARD: usize = 20_000;
@@ -30,6 +30,8 @@ fn main() -> ExitCode {
         ["list"] => input().and_then(|recording| print(&listing::list(&recording))),
         ["hear"] => input().and_then(|recording| print(&hear::hear(&recording))),
         ["salvage"] => input().and_then(|recording| print_salvaged(&recording)),
+        ["lent"] => first(lent::LONGEST_CASE).and_then(|case| print(&lent::answer(&case))),
+        ["lent-case"] => print(&lent::case()),
         ["edges"] => print(edges().as_bytes()),
         ["recording", seed, n] => match (seed.parse(), n.parse()) {
             (Ok(seed), Ok(n)) => print(&cases::recording(seed, n)),
@@ -86,10 +88,15 @@ fn edges() -> String {
 
 /// Standard input, as far as one byte past the longest recording.
 fn input() -> io::Result<Vec<u8>> {
-    let mut bytes = Vec::with_capacity(recording::LONGEST + 1);
+    first(recording::LONGEST + 1)
+}
+
+/// The first bytes of standard input, at most so many.
+fn first(most: usize) -> io::Result<Vec<u8>> {
+    let mut bytes = Vec::with_capacity(most);
     io::stdin()
         .lock()
-        .take(recording::LONGEST as u64 + 1)
+        .take(most as u64)
         .read_to_end(&mut bytes)?;
     Ok(bytes)
 }

@@ -23,7 +23,8 @@ pub enum Salvaged {
         /// The place of the fresh end block in the new recording.
         end: usize,
     },
-    /// Refusal 1: the recording is too long. Refusal 12: there is no head or no whole frame.
+    /// Refusal 1: the recording is too long, or a lent buffer has another length than it must.
+    /// Refusal 12: there is no head or no whole frame.
     Refused(u8),
 }
 
@@ -110,6 +111,18 @@ pub fn written<'a>(recording: &'a [u8], salvaged: &'a Salvaged) -> &'a [u8] {
         Salvaged::Mended { bytes, .. } => bytes,
         Salvaged::Refused(_) => &[],
     }
+}
+
+/// Salvages any bytes into a lent buffer. One that has not 65,536 bytes is refused 1, whatever the
+/// recording is. A refusal writes nothing, and what stands past the end block stays.
+pub fn into_lent(recording: &[u8], buffer: &mut [u8]) -> Salvaged {
+    if buffer.len() != LONGEST {
+        return Salvaged::Refused(1);
+    }
+    let salvaged = salvage(recording);
+    let bytes = written(recording, &salvaged);
+    buffer[..bytes.len()].copy_from_slice(bytes);
+    salvaged
 }
 
 /// The changes, a line each: nothing of a sound recording; or the line of the refusal.
