@@ -2,8 +2,9 @@
 //! salvaged, over the edges, the cuts, uploads and generated recordings.
 
 use outside::cases::{self, Generator};
+use outside::lent;
 use outside::recording;
-use outside::salvage::{changes, salvage, written, Salvaged};
+use outside::salvage::{changes, into_lent, salvage, written, Salvaged};
 use outside::uploads::{cuts, upload};
 use std::collections::BTreeMap;
 
@@ -692,5 +693,148 @@ fn any_bytes_are_salvaged_as_a_second_way_says() {
             bytes.splice(0..0, [8, 0, 0, 0, 1, 0, 7, 0, 0, 0, 1, 0, 0, 0]);
         }
         hold("any bytes", &bytes);
+    }
+}
+
+/// A case of salvaging into a lent buffer.
+fn lent_case(n: u16, recording: &[u8]) -> Vec<u8> {
+    [&n.to_le_bytes(), recording].concat()
+}
+
+/// Lines, and after them a buffer that begins with some bytes and is 170 from there on.
+fn lines_and_buffer(text: &str, bytes: &[u8], length: usize) -> Vec<u8> {
+    let mut all = [text.as_bytes(), bytes].concat();
+    all.resize(text.len() + length, 170);
+    all
+}
+
+/// Lengths of a buffer that are not right, as a case has them.
+const OTHER_LENGTHS: [u16; 7] = [1, 2, 10, 48, 65_520, 65_532, 65_535];
+
+#[test]
+fn the_sample_cut_in_its_second_frame_into_a_lent_buffer() {
+    let cut = &cases::sample()[..44];
+    let mended = hex(&[HEAD, ONE_FRAME, ZERO, END_OF_1].concat());
+    let said = lent::answer(&lent_case(0, cut));
+    let text = "dropped 6 bytes from 38\nkept 1 frames\nend written at 38\n";
+    assert_eq!(said.len(), text.len() + LONGEST);
+    assert!(said.starts_with(text.as_bytes()));
+    let buffer = &said[text.len()..];
+    assert_eq!(buffer[..48], mended);
+    assert!(buffer[48..].iter().all(|&byte| byte == 170));
+    // It would go into so many bytes, but no other length is right.
+    for n in [48, 49, 65_535] {
+        let refused = lines_and_buffer("refused 1\n", &[], usize::from(n));
+        assert_eq!(lent::answer(&lent_case(n, cut)), refused, "{n}");
+    }
+}
+
+#[test]
+fn the_stored_case_is_cut_in_its_fifth_frame() {
+    let case = lent::case();
+    assert_eq!(case, lent::case());
+    assert_eq!((case.len(), &case[..2]), (109, &[0, 0][..]));
+    let recording = &case[2..];
+    assert_eq!(recording[14..20], [54, 0, 0, 0, 2, 0]);
+    assert_eq!(recording[74..80], [54, 0, 0, 0, 2, 0]);
+    let mut mended = recording[..98].to_vec();
+    mended[74] = 18;
+    mended.extend([4, 0, 0, 0, 3, 0, 4, 0, 0, 0]);
+    let expected = lines_and_buffer(&lines(9, 98, 4), &mended, LONGEST);
+    assert_eq!(lent::answer(&case), expected);
+    // No byte that is written is as the buffer was before, so that it shows how far it goes.
+    assert!(!mended.contains(&170));
+}
+
+#[test]
+fn a_lent_buffer_holds_what_is_salvaged_and_else_what_it_held() {
+    let mut all: Vec<(String, Vec<u8>)> = cases::edges()
+        .into_iter()
+        .map(|edge| (edge.name, edge.bytes))
+        .collect();
+    let cuts = cuts().into_iter().enumerate();
+    all.extend(cuts.map(|(n, bytes)| (format!("cut {n}"), bytes)));
+    all.extend((0..300).map(|n| (format!("upload {n}"), upload(7, n))));
+    let before = Generator::new(41).bytes(LONGEST);
+    let mut reached = BTreeMap::new();
+    for (name, input) in &all {
+        let salvaged = second_way(input, LONGEST);
+        let bytes = written(input, &salvaged);
+        let expected = lines_and_buffer(&changes(&salvaged), bytes, LONGEST);
+        assert!(lent::answer(&lent_case(0, input)) == expected, "{name}");
+        // Whatever the buffer held.
+        let mut buffer = before.clone();
+        assert_eq!(into_lent(input, &mut buffer), salvaged, "{name}");
+        assert!(buffer[..bytes.len()] == *bytes, "{name}");
+        assert!(buffer[bytes.len()..] == before[bytes.len()..], "{name}");
+        let word = match salvaged {
+            Salvaged::Sound => "sound",
+            Salvaged::Mended { .. } => "mended",
+            Salvaged::Refused(1) => "refused 1",
+            Salvaged::Refused(_) => "refused 12",
+        };
+        *reached.entry(word).or_insert(0) += 1;
+    }
+    assert_eq!(reached.len(), 4, "{reached:?}");
+    assert!(reached.values().all(|&n| n >= 10), "{reached:?}");
+}
+
+#[test]
+fn a_lent_buffer_of_another_length_is_refused_whatever_the_recording() {
+    for edge in cases::edges() {
+        for n in OTHER_LENGTHS {
+            let expected = lines_and_buffer("refused 1\n", &[], usize::from(n));
+            let said = lent::answer(&lent_case(n, &edge.bytes));
+            assert!(said == expected, "{n}: {}", edge.name);
+        }
+    }
+    // Lengths that no case has.
+    let before = Generator::new(42).bytes(2 * LONGEST);
+    for recording in [cases::sample(), cases::sample()[..44].to_vec(), Vec::new()] {
+        for length in [0, LONGEST + 1, 2 * LONGEST] {
+            let mut buffer = before[..length].to_vec();
+            let salvaged = into_lent(&recording, &mut buffer);
+            assert_eq!(salvaged, Salvaged::Refused(1), "{length}");
+            assert!(buffer == before[..length], "{length}");
+        }
+    }
+}
+
+#[test]
+fn short_cases_of_a_lent_buffer() {
+    let sample = cases::sample();
+    for (case, text, bytes, length) in [
+        // What is not there of the number is 0, and the recording is empty.
+        (vec![], "refused 12\n", &[][..], LONGEST),
+        (vec![0], "refused 12\n", &[], LONGEST),
+        (vec![0, 0], "refused 12\n", &[], LONGEST),
+        (vec![5], "refused 1\n", &[], 5),
+        (vec![255], "refused 1\n", &[], 255),
+        // The lowest byte is first.
+        (vec![5, 0], "refused 1\n", &[], 5),
+        (vec![0, 5], "refused 1\n", &[], 1_280),
+        (vec![255, 255], "refused 1\n", &[], 65_535),
+        (lent_case(0, &[170]), "refused 12\n", &[], LONGEST),
+        (lent_case(0, &sample), "", &sample, LONGEST),
+        (lent_case(66, &sample), "refused 1\n", &[], 66),
+    ] {
+        let expected = lines_and_buffer(text, bytes, length);
+        assert!(lent::answer(&case) == expected, "{case:?}");
+    }
+}
+
+#[test]
+fn the_longest_cases_of_a_lent_buffer() {
+    // What is read of a case has room for one byte past the longest recording.
+    let edges = cases::edges().into_iter();
+    let long = edges
+        .map(|edge| edge.bytes)
+        .find(|bytes| bytes.len() > LONGEST);
+    let long = long.expect("there is one that is too long");
+    assert_eq!(lent_case(0, &long[..=LONGEST]).len(), lent::LONGEST_CASE);
+    for n in [0, 48, 65_535] {
+        let length = if n == 0 { LONGEST } else { usize::from(n) };
+        let expected = lines_and_buffer("refused 1\n", &[], length);
+        assert!(lent::answer(&lent_case(n, &long)) == expected, "{n}");
     }
 }
