@@ -10,6 +10,7 @@ is needed:
     seen: list                         the program on its own `stdin`, held to its own `stdout`
     seen: list samples/cut.rec         on a recording of samples/, held to the file of the program's name beside it
     seen: list recordings/00253.rec    on a recording that the independent program makes, held to what it says of it
+    seen: salvager samples/dropped.rec held to two files beside it, for standard output and for standard error
     seen: leaves, does not end         the run has to be ended by the bound of `rt try`, and what it wrote is only too short
     seen: leaves, is stopped           the program ends otherwise than by its own end: a signal, a check of what the compiler assumes, or
                                        the interpreter's word that what it does has no meaning (a sum that does not fit)
@@ -34,13 +35,16 @@ from pathlib import Path
 
 from sources import CRATES, ROOT, Sources, below, changed, edits
 
-RECORDINGS, SEED = 400, 1
+RECORDINGS, SEED = 560, 1
+# what is stored beside a recording of what a program writes to standard output and, where it has anything to say there, to standard error;
+# a program that is not named here has a file of its own name
+TOLD = {"salvager": ("salvaged", "changes")}
 WAYS = {"-O0": "the native program at -O0", "-O3": "the native program at -O3", "checked": "the native program with LLVM's assumptions checked"}
 ELSE, ENDLESS, STOPPED = "prints something else", "does not end", "is stopped"
 
 
 class Runs:
-    """The runs there are of each program: the word for its input, the input, and what has to be printed."""
+    """The runs there are of each program: the word for its input, the input, what has to be printed, and what has to be said."""
 
     def __init__(self, outside, folder, programs):
         self.folder = folder
@@ -51,12 +55,13 @@ class Runs:
 
     def inputs(self, program):
         own = CRATES / program
-        yield "", own / "stdin" if (own / "stdin").exists() else None, own / "stdout"
+        yield "", own / "stdin" if (own / "stdin").exists() else None, own / "stdout", None
         kept = sorted((ROOT / "samples").glob("*.rec"))
         made = sorted((self.folder / "recordings").glob("*.rec"), key=lambda path: (path.stat().st_size > 2500, -path.stat().st_size))
+        told, said = TOLD.get(program, (program, None))
         for path in kept + made:
-            if (told := path.with_suffix(f".{program}")).exists():
-                yield f"{path.parent.name}/{path.name}", path, told
+            if path.with_suffix(f".{told}").exists():
+                yield f"{path.parent.name}/{path.name}", path, path.with_suffix(f".{told}"), said and path.with_suffix(f".{said}")
 
     def named(self, words):
         """The run that a `seen:` line names, or None."""
@@ -97,7 +102,7 @@ class Room:
 
     def tried(self, texts, run):
         """What `rt try` says of each way to run a program, with these texts for some files; None where it is not compiled."""
-        program, _, data, told = run
+        program, _, data, told, said = run
         for old in self.kept.iterdir():
             old.unlink()
         for (crate, file), text in texts.items():
@@ -108,31 +113,38 @@ class Room:
             if source:
                 shutil.copy(source, own / name)
         try:
-            said = subprocess.run(["rt", "try", program], cwd=self.folder, env={**os.environ, "RATTLE_HOME": str(self.kit)}, capture_output=True, text=True,
+            done = subprocess.run(["rt", "try", program], cwd=self.folder, env={**os.environ, "RATTLE_HOME": str(self.kit)}, capture_output=True, text=True,
                                   errors="replace", check=False)
         finally:
             for crate, file in texts:
                 shutil.copy(CRATES / crate / file, self.folder / "crates" / crate / file)
-        return answers(said.stdout), said.stdout + said.stderr
+        found = answers(done.stdout)
+        if found and said:
+            for way, kept in (("-O0", "0"), ("-O3", "1")):
+                if found[way] == "right" and self.other(kept, run):
+                    found[way] = ELSE
+        return found, done.stdout + done.stderr
+
+    def other(self, kept, run):
+        """Whether a program that was kept ends by itself and writes something else than it should, to one of the two outputs."""
+        _, _, data, told, said = run
+        with open(data or os.devnull, "rb") as source:
+            done = subprocess.run([ROOT / "run", self.kept / kept], stdin=source, capture_output=True, timeout=10, check=False)
+        return done.returncode == 0 and (done.stdout != told.read_bytes() or (said is not None and done.stderr != said.read_bytes()))
 
     def differs(self, runs):
         """The first run in which the program kept from -O0, or the one from -O3, ends and prints something else; or None.
         It is not looked for further once three runs have not ended."""
         endless = 0
         for run in runs:
-            with open(run[2] or os.devnull, "rb") as data:
-                wanted = run[3].read_bytes()
-                for kept in ("0", "1"):
-                    data.seek(0)
-                    try:
-                        printed = subprocess.run([ROOT / "run", self.kept / kept], stdin=data, capture_output=True, timeout=10, check=False)
-                    except subprocess.TimeoutExpired:
-                        endless += 1
-                        if endless == 3:
-                            return None
-                        continue
-                    if printed.returncode == 0 and printed.stdout != wanted:
+            for kept in ("0", "1"):
+                try:
+                    if self.other(kept, run):
                         return run
+                except subprocess.TimeoutExpired:
+                    endless += 1
+                    if endless == 3:
+                        return None
         return None
 
 

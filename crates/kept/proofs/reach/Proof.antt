@@ -4,7 +4,7 @@ use Rattle.kept.proofs.reach.Statement.{statement}
 use Rattle.kept.proofs.reach.Tie as tie
 
 returns : tie.Need-returns
-returns c = reach-none _ _ (c .if1 .taken)
+returns c = reach-none _ (c .before .args .left) (omega (arith, c .if1 .taken))
 
 returns-2 : tie.Need-returns-2
 returns-2 c = reach-some _ _ (c .if1 .left)

@@ -7,7 +7,8 @@ use Rattle.salvage.proofs.put_rest.Statement.{statement}
 use Rattle.salvage.proofs.put_rest.Tie as tie
 
 returns : tie.Need-returns
-returns c = rest-none _ _ _ _ _ (c .before .before .before .pre .0) (c .if1 .taken)
+returns c =
+    let s = c .before .before .before in rest-none _ _ _ _ (s .args .frames) (s .pre .0) (omega (arith, c .if1 .taken))
 
 add-from : tie.Need-add-from
 add-from c =
