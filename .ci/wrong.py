@@ -36,8 +36,8 @@ from pathlib import Path
 from sources import CRATES, ROOT, Sources, below, changed, edits
 
 RECORDINGS, SEED = 560, 1
-# what is stored beside a recording of what a program writes to standard output and, where it has anything to say there, to standard error;
-# a program that is not named here has a file of its own name
+# what is stored beside a recording of what a program writes to standard output and to standard error; a program that is not named here has
+# a file of its own name, and nothing to say
 TOLD = {"salvager": ("salvaged", "changes")}
 WAYS = {"-O0": "the native program at -O0", "-O3": "the native program at -O3", "checked": "the native program with LLVM's assumptions checked"}
 ELSE, ENDLESS, STOPPED = "prints something else", "does not end", "is stopped"
@@ -47,7 +47,8 @@ class Runs:
     """The runs there are of each program: the word for its input, the input, what has to be printed, and what has to be said."""
 
     def __init__(self, outside, folder, programs):
-        self.folder = folder
+        self.folder, self.nothing = folder, folder / "nothing"
+        self.nothing.write_bytes(b"")
         made = subprocess.run([outside, "recordings", folder / "recordings", str(RECORDINGS), str(SEED)], check=False) if outside else None
         if made is not None and made.returncode:
             sys.exit(f"{outside} recordings ended with status {made.returncode}")
@@ -60,8 +61,12 @@ class Runs:
         made = sorted((self.folder / "recordings").glob("*.rec"), key=lambda path: (path.stat().st_size > 2500, -path.stat().st_size))
         told, said = TOLD.get(program, (program, None))
         for path in kept + made:
-            if path.with_suffix(f".{told}").exists():
-                yield f"{path.parent.name}/{path.name}", path, path.with_suffix(f".{told}"), said and path.with_suffix(f".{said}")
+            printed, changes = path.with_suffix(f".{told}"), said and path.with_suffix(f".{said}")
+            if changes and not printed.exists():
+                # samples/ has a result where a recording is mended: a refused one has none, and a sound one is its own
+                printed = path if not changes.read_bytes() else self.nothing
+            if printed.exists():
+                yield f"{path.parent.name}/{path.name}", path, printed, changes
 
     def named(self, words):
         """The run that a `seen:` line names, or None."""
