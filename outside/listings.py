@@ -6,8 +6,8 @@
 OUTSIDE is the independent program, which writes the recordings with what is to be printed of each. LIST, HEAR and SALVAGE are commands,
 each one word of the shell's (as './run target/bin/list'). Each recording is read from a file, and some small ones come through a pipe in
 pieces. A program has to print what is expected, say on standard error the changes, if it is SALVAGE, or nothing, and end with status 0.
-SALVAGE is held over the named edges and every third of the recordings after them, and over the cuts and some uploads. Then each is run with
-an argument, and on an input that cannot be read: it prints nothing and says one line. The last line says how many cases were compared.
+SALVAGE is held over cuts and uploads too. Then each is run with an argument, and on an input that cannot be read: it prints nothing and
+says one line. The last line says how many cases were compared.
 """
 
 import os
@@ -54,11 +54,11 @@ class Compared:
                   f"standard error {answer[2][:120]!r}, not {expected[2][:120]!r}")
 
 
-def compare(compared, folder, program, printed, said, every=lambda n: True):
-    """Runs a program over the recordings, by their number, that have a file with the suffix of what is printed."""
+def compare(compared, folder, program, printed, said):
+    """Runs a program over the recordings that have a file with the suffix of what is printed."""
     for n, path in enumerate(sorted(folder.glob("*.rec"))):
         wanted = path.with_suffix(printed)
-        if not wanted.exists() or not every(n):
+        if not wanted.exists():
             continue
         expected = (0, wanted.read_bytes(), path.with_suffix(said).read_bytes() if said else b"")
         name = f"{folder.name}/{path.name} {printed}"
@@ -84,17 +84,14 @@ def main(outside, count, seed, *programs):
     with tempfile.TemporaryDirectory() as name:
         folder, cuts, uploads = (Path(name) / part for part in ("recordings", "cuts", "uploads"))
         subprocess.run([outside, "recordings", folder, count, seed], check=True)
-        edges = len(subprocess.run([outside, "edges"], stdout=subprocess.PIPE, check=True).stdout.splitlines())
         for (word, printed, said, usage), program in zip(PROGRAMS, programs):
             program = shlex.split(program)
+            compare(compared, folder, program, printed, said)
             if word == "salvage":
                 subprocess.run([outside, "cuts", cuts], check=True)
                 subprocess.run([outside, "uploads", uploads, str(UPLOADS), seed], check=True)
-                compare(compared, folder, program, printed, said, lambda n: n < edges or n % 3 == 0)
                 compare(compared, cuts, program, printed, said)
                 compare(compared, uploads, program, printed, said)
-            else:
-                compare(compared, folder, program, printed, said)
             strange(compared, folder, program, word, usage)
         refused = sum(path.read_bytes().startswith(b"refused") for path in folder.glob("*.list"))
     print(f"{refused} of the recordings are refused")
