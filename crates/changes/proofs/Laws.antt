@@ -20,7 +20,8 @@ use Rattle.salvage.specs.declared.Salvaged.{Salvaged}
 use Rattle.salvage.specs.declared.Salvaged.the-variants.{Sound, Mended, Refused}
 use Rattle.salvage.proofs.Results.{Small, changes-small}
 use Rattle.changes.specs.Promised.{lastLines, ChangesTold, ChangesFit}
-use Rattle.changes.specs.Telling.{droppedLine, keptLine, endLine, refusedLine, droppedText, changesText, tellingOf}
+use Rattle.changes.specs.Telling.{droppedLine, keptLine, endLine, refusedLine, droppedText, changesText}
+use Rattle.changes.specs.Telling.{tellingOf}
 use Rattle.changes.proofs.Texts.{dropped-none, dropped-some}
 
 -- the last two lines
@@ -30,7 +31,8 @@ last-lines c =
     append-assoc (ascii "kept ") (decimal (c .frames) ++ ascii " frames\n")
     (ascii "end written at " ++ (decimal (c .end) ++ ascii "\n"))
     ∙ ap (λ (t : List ℕ). ascii "kept " ++ t)
-    (append-assoc (decimal (c .frames)) (ascii " frames\n") (ascii "end written at " ++ (decimal (c .end) ++ ascii "\n")))
+    (append-assoc (decimal (c .frames)) (ascii " frames\n")
+    (ascii "end written at " ++ (decimal (c .end) ++ ascii "\n")))
 
 -- two lines
 two-lines : (c : Changes) → c .dropped ≡ 0 → changesText c ≡ lastLines c

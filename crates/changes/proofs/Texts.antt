@@ -14,7 +14,8 @@ use Rattle.kept.specs.declared.Unsalvaged.{Unsalvaged}
 use Rattle.salvage.specs.declared.Changes.{Changes}
 use Rattle.salvage.specs.declared.Salvaged.{Salvaged}
 use Rattle.salvage.specs.declared.Salvaged.the-variants.{Sound, Mended, Refused}
-use Rattle.changes.specs.Telling.{droppedLine, keptLine, endLine, refusedLine, droppedText, changesText, tellingOf}
+use Rattle.changes.specs.Telling.{droppedLine, keptLine, endLine, refusedLine, droppedText, changesText}
+use Rattle.changes.specs.Telling.{tellingOf}
 
 -- eight numbers of which a form shows the first
 abbrev one : ℕ → List ℕ

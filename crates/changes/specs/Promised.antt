@@ -15,8 +15,8 @@ abbrev pub lastLines : Changes → List ℕ
 lastLines c =
     ascii "kept " ++ (decimal (c .frames) ++ (ascii " frames\nend written at " ++ (decimal (c .end) ++ ascii "\n")))
 
--- letter for letter: a sound recording has an empty list; of a mended one three lines, or two where nothing was dropped;
--- of a refusal its number
+-- letter for letter: a sound recording has an empty list; of a mended one three lines, or two where nothing was
+-- dropped; of a refusal its number
 unfoldable pub ChangesTold : Type 0
 ChangesTold =
     (s : List ℕ) (room : ℕ) (c : Changes)

@@ -40,7 +40,8 @@ pub blocks-join : (ps qs : List (List ℕ)) → voiceBlocks (ps ++ qs) ≡ voice
 unfolding voiceBlocks
 blocks-join [] qs = refl
 blocks-join (p ∷ ps) qs =
-    ap (λ (x : List ℕ). block 2 p ++ x) (blocks-join ps qs) ∙ sym (append-assoc (block 2 p) (voiceBlocks ps) (voiceBlocks qs))
+    ap (λ (x : List ℕ). block 2 p ++ x) (blocks-join ps qs)
+    ∙ sym (append-assoc (block 2 p) (voiceBlocks ps) (voiceBlocks qs))
 
 -- and their frames
 pub frames-join : (ps qs : List (List ℕ)) → framesIn (ps ++ qs) ≡ framesIn ps ++ framesIn qs
@@ -232,7 +233,8 @@ kept-is s l t = go (walkedOf s .walk) refl (way s)
     joined : (ps : List (List ℕ)) → Behind s (walkedOf s .walk) ps
         → Kept s (walkedOf s .walk) (leftAt s (walkedOf s .ending))
     joined ps b =
-        let v : voicesFrom s (afterHead 0) ≡ ps = b .passed ∙ ap (λ (x : List (List ℕ)). ps ++ x) past ∙ append-nil ps in
+        let v : voicesFrom s (afterHead 0) ≡ ps
+        = b .passed ∙ ap (λ (x : List (List ℕ)). ps ++ x) past ∙ append-nil ps in
         let f : length (framesIn (voicesFrom s (afterHead 0))) ≡ walkedOf s .walk .frames
         = ap (λ (x : List (List ℕ)). length (framesIn x)) v ∙ sym (b .frames) in
         let n = ap length (frames-join (voicesFrom s (afterHead 0)) rest) in

@@ -83,7 +83,8 @@ module _ (s : List ℕ) (short : length s ≤ longest) (t : Kept s (walkedOf s .
       first-join (voicesFrom s (afterHead 0)) (framesAt s (walkedOf s .walk .at) (leftAt s (walkedOf s .ending)))
       (framesKept s) (t .voices)
       ∙ ap (λ (x : List (List ℕ)). firstFrames (voicesFrom s (afterHead 0)) (framesKept s) ++ x)
-      (ap (λ (n : ℕ). firstFrames (framesAt s (walkedOf s .walk .at) (leftAt s (walkedOf s .ending))) (framesKept s - n))
+      (ap (λ (n : ℕ).
+      firstFrames (framesAt s (walkedOf s .walk .at) (leftAt s (walkedOf s .ending))) (framesKept s - n))
       (t .whole) ∙ at-first s (walkedOf s .walk .at) (leftAt s (walkedOf s .ending)) _ kept-rest)
 
 -- ---- the returns of `planned`

@@ -43,8 +43,8 @@ abbrev pub framesAt : List ℕ → ℕ → ℕ → List (List ℕ)
 framesAt s at zero = []
 framesAt s at (suc n) = part s (at + 6) (18 * suc n) ∷ []
 
--- the payloads that can be kept: the voice blocks before the first refusal, and what is left of the block at which it is
--- given
+-- the payloads that can be kept: the voice blocks before the first refusal, and what is left of the block at which it
+-- is given
 unfoldable pub keptOf : List ℕ → List (List ℕ)
 keptOf s = voicesFrom s (afterHead 0) ++ framesAt s (walkedOf s .walk .at) (leftAt s (walkedOf s .ending))
 

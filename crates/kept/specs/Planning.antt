@@ -28,8 +28,8 @@ abbrev pub isSound : Ending → Bool
 isSound Sound = true
 isSound (Refused cause) = false
 
--- what is to be written: how many frames; those that the voice blocks before the first refusal do not have are the first
--- ones of the block at which it is given
+-- what is to be written: how many frames; those that the voice blocks before the first refusal do not have are the
+-- first ones of the block at which it is given
 unfoldable pub keepOf : List ℕ → Keep
 keepOf s =
     record {

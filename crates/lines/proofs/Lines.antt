@@ -99,7 +99,8 @@ pub shows-longest : (number : ℕ) (t : Told) {place : ℕ} {text : List ℕ} �
 shows-longest number t e l s = shows-told number t e (rw (sym l) s)
 
 -- the return of `refused`
-pub shows-refused : (cause : Cause) {number : ℕ} {t : Told} {text : List ℕ} → number ≡ refusalOf cause → t ≡ toldOf cause
+pub shows-refused : (cause : Cause) {number : ℕ} {t : Told} {text : List ℕ} → number ≡ refusalOf cause
+    → t ≡ toldOf cause
     → text ≡ refusalLine number (numbersShown t) → text ≡ refusedLine cause
 unfolding refusedLine
 shows-refused cause n t s = rw (sym n, sym t) s

@@ -1,5 +1,5 @@
--- The three demands, in the words of the person this is built for, and under each the statements that meet it; then what
--- is promised of the salvage tool. A reviewer starts here:
+-- The three demands, in the words of the person this is built for, and under each the statements that meet it; then
+-- what is promised of the salvage tool. A reviewer starts here:
 -- each name below is a statement of the file beside it, and proofs/Demands.antt holds a proof of every one.
 use Rattle.listing.specs.Promised.{ListingFits, ListingStands, FaultsListed, RefusedListingStays}
 use Rattle.salvage.specs.Promised.{SalvageRefuses, SalvageStands, SalvagedAccepted, KeptUpToRefusal, SoundUnchanged}
@@ -161,11 +161,11 @@ pub record DemandThree : Type 0 where
   pub unguarded-unseen : UnguardedUnseen
   pub three-unseen : ThreeUnseen
 
--- Document 02, K2: "It keeps the head, every voice block before the first refusal and, where that refusal is a voice block
--- running past the end, the whole frames that block still has; last frames go, as few as will do, if the result would pass
--- 65,536 bytes, and no empty block is left. It writes these and a fresh end into a lent buffer of 65,536 bytes, whose bytes
--- past that end block stay, and lists each change: bytes dropped from where, frames kept, end written. A sound recording
--- comes out unchanged with an empty list. What it writes is always accepted."
+-- Document 02, K2: "it keeps the head, every voice block before the first refusal and, where that refusal is a voice
+-- block running past the end, the whole frames that block still has; last frames go, as few as will do, if the result
+-- would pass 65,536 bytes, and no empty block is left. It writes these and a fresh end into a lent buffer of 65,536
+-- bytes, whose bytes past that end block stay, and lists each change: bytes dropped from where, frames kept, end
+-- written. A sound recording comes out unchanged with an empty list. What it writes is always accepted."
 --
 -- When it is refused, and that the bytes past the end block stay, stands under demand 1.
 pub record SalvageTool : Type 0 where

@@ -150,7 +150,8 @@ module _ {o : List ℕ} {start : ℕ} {s : List ℕ} {frames : ℕ} {out : List 
           (ap₂ (blocksTo s) next fewer)
 
       -- a turn lays a block
-      pub laying-on : {out′ : List ℕ} {end′ : ℕ} → Put out end (block 2 (take (first + kept - first) (drop first s))) end′ out′
+      pub laying-on : {out′ : List ℕ} {end′ : ℕ}
+          → Put out end (block 2 (take (first + kept - first) (drop first s))) end′ out′
           → Laying o start s frames out′ end′ (first + (rest + 18)) (left - kept)
       laying-on {out′} {end′} q =
           let m : first + kept - first ≡ kept = omega arith in
@@ -160,12 +161,16 @@ module _ {o : List ℕ} {start : ℕ} {s : List ℕ} {frames : ℕ} {out : List 
           = put-as out end _ (block 2 (part s (at + 6) kept)) (ap (block 2) same) q in
           record {
             here =
-                ap₂ (λ (x : List ℕ) (y : ℕ). laid x y (blocksTo s (first + (rest + 18)) ((left - kept) / 18))) (r .1) (r .0)
-                ∙ laid-then out end (block 2 (part s (at + 6) kept)) (blocksTo s (first + (rest + 18)) ((left - kept) / 18))
+                ap₂ (λ (x : List ℕ) (y : ℕ). laid x y (blocksTo s (first + (rest + 18)) ((left - kept) / 18))) (r .1)
+                (r .0)
+                ∙ laid-then out end (block 2 (part s (at + 6) kept))
+                (blocksTo s (first + (rest + 18)) ((left - kept) / 18))
                 ∙ ap (laid out end) (sym blocks-on) ∙ p .here;
             place =
-                ap₂ (λ (x : List ℕ) (y : ℕ). after x y (blocksTo s (first + (rest + 18)) ((left - kept) / 18))) (r .1) (r .0)
-                ∙ after-then out end (block 2 (part s (at + 6) kept)) (blocksTo s (first + (rest + 18)) ((left - kept) / 18))
+                ap₂ (λ (x : List ℕ) (y : ℕ). after x y (blocksTo s (first + (rest + 18)) ((left - kept) / 18))) (r .1)
+                (r .0)
+                ∙ after-then out end (block 2 (part s (at + 6) kept))
+                (blocksTo s (first + (rest + 18)) ((left - kept) / 18))
                 ∙ ap (after out end) (sym blocks-on) ∙ p .place;
             within = put-within out end _ r;
             long = put-length out end _ r ∙ p .long;
@@ -191,7 +196,8 @@ rest-put o end s at zero n q = absurd (n refl)
 rest-put o end s at (suc frames) n q =
     let m : at + 6 + 18 * suc frames - (at + 6) ≡ 18 * suc frames = omega arith in
     put-as o end _ (voiceBlocks (framesAt s at (suc frames)))
-    (ap (λ (x : ℕ). block 2 (take x (drop (at + 6) s))) m ∙ sym (append-nil (block 2 (part s (at + 6) (18 * suc frames)))))
+    (ap (λ (x : ℕ). block 2 (take x (drop (at + 6) s))) m
+    ∙ sym (append-nil (block 2 (part s (at + 6) (18 * suc frames)))))
     q
 
 -- the end of that block is within the bytes

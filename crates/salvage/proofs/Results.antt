@@ -92,7 +92,8 @@ module _ (s : List ℕ) (room : ℕ) (k : Keep) (e : planOf s room ≡ Written k
   before-is =
       ap (λ (x : Keep).
       headBlock (x .heading)
-      ++ (voiceBlocks (firstFrames (voicesFrom s (afterHead 0)) (x .frames)) ++ voiceBlocks (framesAt s (x .at) (x .rest))))
+      ++ (voiceBlocks (firstFrames (voicesFrom s (afterHead 0)) (x .frames))
+      ++ voiceBlocks (framesAt s (x .at) (x .rest))))
       (planned .is)
       ∙ ap (λ (x : List ℕ). headBlock (walkedOf s .walk .heading) ++ x)
       (sym (blocks-join _ _) ∙ ap voiceBlocks (sym (kept-voices s (planned .short) (planned .kept))))

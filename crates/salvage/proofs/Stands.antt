@@ -1,4 +1,5 @@
--- Voice blocks made of the first frames of other voice blocks, at the same places: what stands in one stands in the other.
+-- Voice blocks made of the first frames of other voice blocks, at the same places: what stands in one stands in the
+-- other.
 -- Assumes nothing.
 use mathlib.Core.Path.{_≡_, _∙_, sym, refl, ap, ap₂, subst}
 use mathlib.Core.List.{List, [], _∷_, _++_, map}
@@ -54,7 +55,8 @@ module _ (r s : List ℕ) (at m size : ℕ) (ps : List (List ℕ)) (n : voiceSiz
   pub first-size : voiceSize r at ≡ length (take (18 * m) (part s (at + 6) size))
   first-size =
       let t = voice-sized r at (voiceSize r at) refl n in
-      sym (length-take-le (voiceSize r at) (drop (at + 6) r) (simp length-drop (omega (arith, t .fits)))) ∙ ap length first
+      sym (length-take-le (voiceSize r at) (drop (at + 6) r) (simp length-drop (omega (arith, t .fits))))
+      ∙ ap length first
 
   -- and is what stands there in the input
   pub stands-first : voicesFrom r (at + 6 + voiceSize r at) ≡ map (bytesAt s) (spansFrom r (at + 6 + voiceSize r at))
@@ -79,7 +81,8 @@ module _ (r s : List ℕ) (stop left : ℕ) where
   stand zero at m l i e = absurd (omega arith)
   stand (suc n) at zero l i e = stands-none r s at (e ∙ first-none (voicesFrom s at ++ framesAt s stop left))
   stand (suc n) at (suc m) l i e =
-      go (ℕ-discrete (voiceSize r at) 0) (ℕ-discrete (voiceSize s at) 0) left refl (λ next k h j f. stand n next k h j f)
+      go (ℕ-discrete (voiceSize r at) 0) (ℕ-discrete (voiceSize s at) 0) left refl
+      (λ next k h j f. stand n next k h j f)
     where
       go : Dec (voiceSize r at ≡ 0) → Dec (voiceSize s at ≡ 0) → (x : ℕ) → left ≡ x
           → ((next k : ℕ) → length r - next < n → next + length (voiceBlocks (voicesFrom s next)) ≡ stop

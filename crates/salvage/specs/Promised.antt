@@ -67,8 +67,8 @@ SalvagedAgain =
     (s : List ℕ) (room : ℕ) → Salvages s room
     → (salvageOf (resultOf s) longest ≡ Sound) × (resultOf (resultOf s) ≡ resultOf s)
 
--- last frames go, as few as will do: with one more the result would pass 65,536 bytes. No more than one ever goes, since
--- only the fresh end can be too much, and one is always kept.
+-- last frames go, as few as will do: with one more the result would pass 65,536 bytes. No more than one ever goes,
+-- since only the fresh end can be too much, and one is always kept.
 unfoldable pub FewestGo : Type 0
 FewestGo =
     (s : List ℕ) (room : ℕ) → Salvages s room

@@ -15,7 +15,8 @@ use Rattle.salvage.specs.declared.Salvaged.the-variants.{Sound, Mended}
 unfoldable pub bytesBefore : List ℕ → Keep → List ℕ
 bytesBefore s k =
     headBlock (k .heading)
-    ++ (voiceBlocks (firstFrames (voicesFrom s (afterHead 0)) (k .frames)) ++ voiceBlocks (framesAt s (k .at) (k .rest)))
+    ++ (voiceBlocks (firstFrames (voicesFrom s (afterHead 0)) (k .frames))
+    ++ voiceBlocks (framesAt s (k .at) (k .rest)))
 
 -- the changes in so many bytes, with so many frames and the end block at a place
 abbrev pub changesBy : ℕ → ℕ → ℕ → Changes

@@ -21,7 +21,8 @@ keep-by-requires c κs =
 returns-3 : tie.Need-returns-3
 returns-3 c =
     let e = c .before in
-    plan-keep (e .before .before .before .before .args .walk) _ _ (e .before .before .if1 .left) (λ z. e .if2 .left (omega (arith, z)))
+    plan-keep (e .before .before .before .before .args .walk) _ _ (e .before .before .if1 .left)
+    (λ z. e .if2 .left (omega (arith, z)))
     (c .keep-by .ensures)
 
 pub plan-by-spec : {M : Type 1} → statement M

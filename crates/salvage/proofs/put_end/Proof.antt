@@ -13,4 +13,5 @@ same-length c = put-length _ _ _ (c .before .before .put-word .ensures)
 pub put-end-spec : {M : Type 1} → statement M
 put-end-spec =
     tie.close
-    (tie.spec (λ c. omega arith) (λ c. omega arith) (λ c. omega arith) (λ c. omega arith) (search needs) (λ c κs. tt) same-length returns)
+    (tie.spec (λ c. omega arith) (λ c. omega arith) (λ c. omega arith) (λ c. omega arith) (search needs)
+    (λ c κs. tt) same-length returns)

@@ -18,7 +18,8 @@ loop-holds c = laying-start _ _ _ _ (c .before .before .pre .0)
 
 returns : tie.Need-returns Inv-loop μ-loop
 returns c =
-    let f = c .before .before in laying-none (f .before .before .loop .inv) (sym (f .find .ensures) ∙ c .enum-told .given .1)
+    let f = c .before .before in
+    laying-none (f .before .before .loop .inv) (sym (f .find .ensures) ∙ c .enum-told .given .1)
 
 same-length : tie.Need-same-length Inv-loop μ-loop
 same-length c = c .before .before .before .before .loop .inv .long
