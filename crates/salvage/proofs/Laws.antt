@@ -40,8 +40,8 @@ use Rattle.kept.proofs.Most.{most-more, most-some, most-is}
 use Rattle.kept.proofs.Plans.{kept-count, kept-upto, Planned, plan-written}
 use Rattle.salvage.specs.Promised.{Salvages, SalvageRefuses, SalvageStands, SalvagedAccepted, KeptUpToRefusal}
 use Rattle.salvage.specs.Promised.{SoundUnchanged, SalvagedAgain, FewestGo, NoEmptyBlock, KeptStands}
-use Rattle.salvage.specs.Salvaging.{resultOf, endOf, changesOf, answerOf, salvageOf, leftBy, bufferOf, refusalOf}
-use Rattle.salvage.specs.Salvaging.{tellsOf}
+use Rattle.salvage.specs.Salvaging.{resultOf, endOf, changesOf, answerOf, salvageOf, bufferBy, bufferOf}
+use Rattle.salvage.specs.Salvaging.{refusalOf, tellsOf}
 use Rattle.salvage.specs.declared.Salvaged.{Salvaged}
 use Rattle.salvage.specs.declared.Salvaged.the-variants.{Sound, Mended, Refused}
 use Rattle.salvage.proofs.Results.{left-kept, end-within, result-short}
@@ -190,8 +190,8 @@ unfolding SalvageStands bufferOf salvageOf
 salvage-stands s o = go (planOf s (length o)) refl
   where
     go : (x : Plan) → planOf s (length o) ≡ x
-        → ((Salvages s (length o) → ⊥) → leftBy (answerOf s x) (resultOf s) o ≡ o)
-        × (Salvages s (length o) → leftBy (answerOf s x) (resultOf s) o ≡ resultOf s ++ drop (length (resultOf s)) o)
+        → ((Salvages s (length o) → ⊥) → bufferBy (answerOf s x) (resultOf s) o ≡ o)
+        × (Salvages s (length o) → bufferBy (answerOf s x) (resultOf s) o ≡ resultOf s ++ drop (length (resultOf s)) o)
     go (Nothing why) e = (
       λ n. refl,
       λ z. absurd (number-some why (sym (ap planNumber e) ∙ sym (salvage-number s (length o)) ∙ z)),

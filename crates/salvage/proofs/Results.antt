@@ -24,7 +24,7 @@ use Rattle.kept.proofs.First.{Sized, first-all, first-less}
 use Rattle.kept.proofs.Keeps.{blocks-join, Kept}
 use Rattle.kept.proofs.Most.{made-long, blocks-least, most-fits}
 use Rattle.kept.proofs.Plans.{kept-count, kept-upto, kept-rest, kept-voices, Planned, plan-written}
-use Rattle.salvage.specs.Salvaging.{resultOf, endOf, changesOf, answerOf, salvageOf, leftBy, bufferOf, longOf}
+use Rattle.salvage.specs.Salvaging.{resultOf, endOf, changesOf, answerOf, salvageOf, bufferBy, bufferOf, longOf}
 use Rattle.salvage.specs.Steps.{bytesBefore, changesBy, answerBy}
 use Rattle.salvage.specs.declared.Changes.{Changes}
 use Rattle.salvage.specs.declared.Salvaged.{Salvaged}
@@ -76,9 +76,9 @@ result-long s = made-long (walkedOf s .walk .heading) (voicesKept s)
 
 -- where something is planned, the result is left in the buffer
 pub left-kept : (s o : List ℕ) (k : Keep)
-    → leftBy (answerOf s (Written k)) (resultOf s) o ≡ resultOf s ++ drop (length (resultOf s)) o
+    → bufferBy (answerOf s (Written k)) (resultOf s) o ≡ resultOf s ++ drop (length (resultOf s)) o
 left-kept s o k =
-    chosen (λ (x : Salvaged). leftBy x (resultOf s) o ≡ resultOf s ++ drop (length (resultOf s)) o) (k .sound)
+    chosen (λ (x : Salvaged). bufferBy x (resultOf s) o ≡ resultOf s ++ drop (length (resultOf s)) o) (k .sound)
     (λ t. refl) (λ t. refl)
 
 module _ (s : List ℕ) (room : ℕ) (k : Keep) (e : planOf s room ≡ Written k) where
@@ -138,7 +138,7 @@ module _ (s : List ℕ) (room : ℕ) (k : Keep) (e : planOf s room ≡ Written k
         ∙ ap₂ (λ (x : List ℕ) (n : ℕ). x ++ drop n o)
         (take-all (length o - 0) (resultOf s) (omega (arith, short, planned .buffer, long))) z
         ∙ sym (left-kept s o k)
-        ∙ ap (λ (x : Plan). leftBy (answerOf s x) (resultOf s) o) (sym e ∙ ap (planOf s) (sym long))
+        ∙ ap (λ (x : Plan). bufferBy (answerOf s x) (resultOf s) o) (sym e ∙ ap (planOf s) (sym long))
 
   -- the changes, where the end block stands there
   changes-are : (end : ℕ) → end ≡ endOf s → changesBy (length s) (k .frames) end ≡ changesOf s
@@ -163,7 +163,7 @@ module _ (s : List ℕ) (room : ℕ) (why : Unsalvaged) (e : planOf s room ≡ N
   pub buffer-stays : (o : List ℕ) → length o ≡ room → o ≡ bufferOf s o
   unfolding bufferOf
   buffer-stays o l =
-      ap (λ (x : Salvaged). leftBy x (resultOf s) o) (refused-is ∙ ap (salvageOf s) (sym l))
+      ap (λ (x : Salvaged). bufferBy x (resultOf s) o) (refused-is ∙ ap (salvageOf s) (sym l))
 
 -- the buffer is no shorter than it was
 buffer-long : (s o : List ℕ) → length o ≤ length (bufferOf s o)
@@ -173,7 +173,7 @@ buffer-long s o = go (salvageOf s (length o))
     whole : length o ≤ length (resultOf s ++ drop (length (resultOf s)) o)
     whole = simp (length-append, length-drop) (omega arith)
 
-    go : (x : Salvaged) → length o ≤ length (leftBy x (resultOf s) o)
+    go : (x : Salvaged) → length o ≤ length (bufferBy x (resultOf s) o)
     go Sound = whole
     go (Mended changes) = whole
     go (Refused why) = omega arith

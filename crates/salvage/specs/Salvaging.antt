@@ -43,13 +43,13 @@ unfoldable pub salvageOf : List ℕ → ℕ → Salvaged
 salvageOf s room = answerOf s (planOf s room)
 
 -- the lent buffer then: the result and the bytes past it as they were; a refusal writes nothing
-abbrev pub leftBy : Salvaged → List ℕ → List ℕ → List ℕ
-leftBy Sound result o = result ++ drop (length result) o
-leftBy (Mended changes) result o = result ++ drop (length result) o
-leftBy (Refused why) result o = o
+abbrev pub bufferBy : Salvaged → List ℕ → List ℕ → List ℕ
+bufferBy Sound result o = result ++ drop (length result) o
+bufferBy (Mended changes) result o = result ++ drop (length result) o
+bufferBy (Refused why) result o = o
 
 unfoldable pub bufferOf : List ℕ → List ℕ → List ℕ
-bufferOf s o = leftBy (salvageOf s (length o)) (resultOf s) o
+bufferOf s o = bufferBy (salvageOf s (length o)) (resultOf s) o
 
 -- how many of its bytes are the result of so many; a refusal has none
 abbrev pub longOf : ℕ → Salvaged → ℕ
