@@ -1,19 +1,14 @@
 -- The text of each form with its numbers is that line, and the lines one after the other are the whole.
 -- Assumes nothing.
 use mathlib.Core.Path.{_≡_, _∙_, sym, refl, ap}
-use mathlib.Core.List.{List, [], _∷_, _++_, append-assoc}
-use Prim.Native.Nat.{ℕ, min}
-use native.Mathlib.Omega.{arith}
+use mathlib.Core.List.{List, [], _∷_, append-assoc}
+use Prim.Native.Nat.{ℕ}
 use borrow.Author.Tests.{eq-eqb, ne-eqb}
-use lib.ListN.{length}
 use Rattle.text.specs.Ascii.{ascii}
-use Rattle.text.proofs.Laid.{Put, put-as, put-nothing, put-then}
+use Rattle.text.proofs.Laid.{Put, put-as, put-then}
 use Rattle.lines.specs.Forms.{filledIn}
-use Rattle.kept.specs.Planning.{numberOf}
-use Rattle.kept.specs.declared.Unsalvaged.{Unsalvaged}
 use Rattle.salvage.specs.declared.Changes.{Changes}
 use Rattle.salvage.specs.declared.Salvaged.{Salvaged}
-use Rattle.salvage.specs.declared.Salvaged.the-variants.{Sound, Mended, Refused}
 use Rattle.changes.specs.Telling.{droppedLine, keptLine, endLine, refusedLine, droppedText, changesText}
 use Rattle.changes.specs.Telling.{tellingOf}
 

@@ -2,7 +2,7 @@
 -- Assumes nothing.
 use mathlib.Core.Path.{_≡_, _∙_, sym, refl, ap, ap₂}
 use mathlib.Core.List.{List, [], _∷_, _++_, append-nil}
-use Prim.Native.Nat.{ℕ, zero, suc, _+_, _-_, _*_, _/_, _%_, _<_, _≤_, min}
+use Prim.Native.Nat.{ℕ, zero, suc, _+_, _-_, _*_, _/_, _%_, _<_, _≤_}
 use native.Mathlib.Omega.{arith}
 use native.Mathlib.Decide.{decLe}
 use lib.ListN.{length, getD, take, drop, length-take, length-drop}
@@ -11,18 +11,6 @@ use Rattle.blocks.specs.Frames.{cut, eighteens, framesIn}
 use Rattle.blocks.specs.Made.{voiceBlocks}
 use Rattle.blocks.proofs.Passed.{length-cut, frames-in-none, frames-in-more, blocks-none, blocks-more}
 use Rattle.kept.specs.Keeping.{firstFrames}
-
--- the first n of the first m are the first of the lesser number
-pub take-least : {A : Type 0} (n m : ℕ) (l : List A) → take n (take m l) ≡ take (min n m) l
-take-least n m l = go (decLe n m)
-  where
-    go : Dec (n ≤ m) → take n (take m l) ≡ take (min n m) l
-    go (yes h) =
-        let e : n ≡ min n m = omega arith in take-take n m l h ∙ ap (λ (k : ℕ). take k l) e
-    go (no h) =
-        let e : m ≡ min n m = omega arith in
-        let f = length-take m l in
-        take-all n (take m l) (omega (arith, f)) ∙ ap (λ (k : ℕ). take k l) e
 
 -- payloads of whole frames, none of them empty
 pub data Sized : List (List ℕ) → Type 0 where

@@ -1,17 +1,17 @@
 -- What is kept of a recording that has a head: where its blocks end, how many frames they have.
 -- Assumes nothing.
-use mathlib.Core.Path.{_≡_, _∙_, sym, refl, ap, ap₂, subst}
-use mathlib.Core.Bool.{true, false, not}
+use mathlib.Core.Path.{_≡_, _∙_, sym, refl, ap, subst}
+use mathlib.Core.Bool.{true, not}
 use mathlib.Core.List.{List, [], _∷_, _++_, append-assoc, append-nil}
-use Prim.Native.Nat.{ℕ, zero, suc, _+_, _-_, _*_, _/_, _%_, _<_, _≤_}
+use Prim.Native.Nat.{ℕ, zero, suc, _+_, _-_, _*_, _/_, _≤_}
 use native.Mathlib.Omega.{arith}
-use borrow.Author.Tests.{le-leb, leb-true, ltb-true}
+use borrow.Author.Tests.{leb-true}
 use lib.Dec.{eqb, leb, ltb}
-use lib.ListN.{length, getD, take, drop, length-append, length-drop}
+use lib.ListN.{length, drop, length-append, length-drop}
 use lib.Seq.{take-take, length-take-le}
 use Rattle.laws.proofs.Chosen.{chosen}
-use Rattle.blocks.specs.Blocks.{sizeAt, kindAt, rightSize, ofKind, blockAt, part}
-use Rattle.blocks.specs.Walk.{longest, afterHead, pastVoice, met, stepOf, atStart, walkedOf}
+use Rattle.blocks.specs.Blocks.{sizeAt, kindAt, rightSize, blockAt, part}
+use Rattle.blocks.specs.Walk.{longest, afterHead, pastVoice, met, stepOf, walkedOf}
 use Rattle.blocks.specs.Frames.{voiceSize, voicesFrom, eighteens, framesIn}
 use Rattle.blocks.specs.Made.{block, voiceBlocks}
 use Rattle.blocks.specs.declared.Block.{Block}
@@ -29,7 +29,7 @@ use Rattle.blocks.proofs.Passed.{frames-in-none, frames-in-more, blocks-none, b
 use Rattle.blocks.proofs.Passed.{behind-head, way}
 use Rattle.blocks.proofs.Voices.{head-no-voice, end-no-voice, broken-no-voice, voices-none}
 use Rattle.blocks.proofs.Walks.{voice-passed, step-met, step-further, walked-keeps, walked-stops}
-use Rattle.kept.specs.Keeping.{framesLeft, leftBy, leftAt, framesAt, keptOf, firstFrames}
+use Rattle.kept.specs.Keeping.{framesLeft, leftAt, framesAt, keptOf, firstFrames}
 use Rattle.kept.specs.Steps.{reachOf}
 use Rattle.kept.proofs.First.{Sized, none, more, sized-all, sized-join, first-none}
 

@@ -20,7 +20,7 @@ use Rattle.kept.specs.Steps.{reachOf, fewerOf, framesBy, keepBy, planBy}
 use Rattle.kept.specs.declared.Keep.{Keep}
 use Rattle.kept.specs.declared.Plan.{Plan}
 use Rattle.kept.specs.declared.Plan.the-variants.{Written, Nothing}
-use Rattle.kept.specs.declared.Unsalvaged.the-variants.{TooLong, WrongBuffer, NoHead, NoFrame}
+use Rattle.kept.specs.declared.Unsalvaged.the-variants.{TooLong, WrongBuffer, NoFrame}
 use Rattle.kept.proofs.First.{first-count, first-join}
 use Rattle.kept.proofs.Keeps.{at-first, left-within, Kept, kept-is}
 use Rattle.kept.proofs.Most.{most-upto, most-is}

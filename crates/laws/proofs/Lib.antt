@@ -17,3 +17,4 @@ pub mod Cases
 pub mod Chosen
 pub mod Wide
 pub mod Unless
+pub mod Taken

@@ -11,6 +11,7 @@ use lib.Dec.{eqb, leb, ltb}
 use lib.ListN.{length, take, drop}
 use lib.Seq.{length-take-le}
 use Rattle.laws.proofs.Chosen.{chosen}
+use Rattle.laws.proofs.Taken.{empty}
 use Rattle.blocks.specs.Blocks.{blockAt}
 use Rattle.blocks.specs.Walk.{longest, afterHead, pastHead, stepOf, atStart, stopped, walkedOf}
 use Rattle.blocks.specs.Frames.{spansFrom, bytesAt, voicesFrom, payloadsOf, framesIn, framesOf}
@@ -127,11 +128,6 @@ no-head-there s l t h e = go (walkedOf s .walk) refl (way s)
     go w i (behind-head _ ps b) =
         let u : true ≡ false = sym (b .headed) ∙ ap (λ (x : Walk). x .headed) (sym i) ∙ t in
         absurd (let z : _≡_ {A = ℕ} 0 1 = cc in omega arith)
-
--- a list without length is empty
-empty : {A : Type 0} (l : List A) → length l ≤ 0 → l ≡ []
-empty [] h = refl
-empty (x ∷ l) h = absurd (omega arith)
 
 -- a recording that is short enough, and the right buffer, are no reason for 1
 fits : (s : List ℕ) (room : ℕ) → (length s ≤ longest) × (room ≡ longest)

@@ -1,17 +1,17 @@
 -- Blocks laid one after the other: the voice blocks of a recording, as far as some frames reach, and the whole.
 -- Assumes nothing.
-use mathlib.Core.Path.{_≡_, _∙_, sym, refl, ap, ap₂, subst}
+use mathlib.Core.Path.{_≡_, _∙_, sym, refl, ap, ap₂}
 use mathlib.Core.List.{List, [], _∷_, _++_, append-assoc, append-nil}
 use Prim.Native.Nat.{ℕ, zero, suc, _+_, _-_, _*_, _/_, _%_, _<_, _≤_, min}
 use native.Mathlib.Omega.{arith}
-use native.Mathlib.Decide.{ℕ-discrete, decLe}
-use lib.ListN.{length, take, drop, length-take, length-drop}
-use lib.Seq.{take-take, take-all, length-take-le}
+use native.Mathlib.Decide.{ℕ-discrete}
+use lib.ListN.{length, take, drop, length-drop}
+use lib.Seq.{length-take-le}
 use Rattle.text.specs.Laid.{laid, after}
-use Rattle.text.proofs.Laid.{length-laid, laid-none, laid-then, after-then, Put, put-as, put-nothing, put-then}
+use Rattle.text.proofs.Laid.{laid-none, laid-then, after-then, Put, put-as, put-nothing, put-then}
 use Rattle.text.proofs.Laid.{put-length, put-within}
 use Rattle.blocks.specs.Blocks.{part}
-use Rattle.blocks.specs.Walk.{longest, afterHead}
+use Rattle.blocks.specs.Walk.{afterHead}
 use Rattle.blocks.specs.Frames.{voiceSize, voicesFrom, foundAt}
 use Rattle.blocks.specs.Made.{wordBytes, block, headBlock, voiceBlocks, endBlock}
 use Rattle.blocks.proofs.Frames.{no-voice, first-frame}
@@ -21,7 +21,8 @@ use Rattle.kept.specs.Keeping.{framesAt, firstFrames}
 use Rattle.salvage.specs.Steps.{bytesBefore}
 use Rattle.kept.specs.Steps.{reachOf}
 use Rattle.kept.specs.declared.Keep.{Keep}
-use Rattle.kept.proofs.First.{take-least, first-none, first-more}
+use Rattle.laws.proofs.Taken.{take-least}
+use Rattle.kept.proofs.First.{first-none, first-more}
 
 -- a header and a payload of that size are a voice block
 pub voice-put : (o : List ℕ) (at size : ℕ) (p : List ℕ) {o₁ o₂ : List ℕ} {a₁ a₂ : ℕ} → size ≡ length p

@@ -15,7 +15,8 @@ use Rattle.blocks.proofs.Passed.{blocks-none, blocks-more}
 use Rattle.blocks.proofs.Voices as Voices
 use Rattle.blocks.proofs.Voices.{voice-sized, spans-none, spans-more, voices-none, voices-more}
 use Rattle.kept.specs.Keeping.{framesAt, firstFrames}
-use Rattle.kept.proofs.First.{take-least, first-none}
+use Rattle.laws.proofs.Taken.{take-least, take-length-take}
+use Rattle.kept.proofs.First.{first-none}
 
 -- no voice blocks, no places of them
 spans-empty : (r : List ℕ) (at : ℕ) → voicesFrom r at ≡ [] → spansFrom r at ≡ []
@@ -26,13 +27,7 @@ spans-empty r at e = go (ℕ-discrete (voiceSize r at) 0)
     go (no n) =
         absurd (let l = ap length (sym (voices-more r at (voiceSize r at) refl n) ∙ e) in omega (arith, l))
 
--- as many bytes as the first n are, are those
-take-length-take : {A : Type 0} (n : ℕ) (l : List A) → take (length (take n l)) l ≡ take n l
-take-length-take zero l = refl
-take-length-take (suc n) [] = refl
-take-length-take (suc n) (x ∷ l) = ap (λ (y : List _). x ∷ y) (take-length-take n l)
-
--- so of a part: its first bytes are as many of the bytes there
+-- the first bytes of a part are as many of the bytes there
 first-part : (s : List ℕ) (at size n z : ℕ) → z ≡ length (take n (part s at size))
     → part s at z ≡ take n (part s at size)
 first-part s at size n z e =

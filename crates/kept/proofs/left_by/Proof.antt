@@ -1,7 +1,5 @@
-use mathlib.Core.Path.{_∙_, sym, ap, subst}
-use Prim.Native.Nat.{_+_, _≤_}
+use mathlib.Core.Path.{_∙_, sym, ap}
 use native.Mathlib.Omega.{arith}
-use lib.ListN.{length}
 use borrow.Author.Needs.{needs}
 use Rattle.blocks.specs.declared.Ending.the-variants.{Refused}
 use Rattle.kept.specs.Keeping.{leftBy}

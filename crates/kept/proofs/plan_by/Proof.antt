@@ -1,5 +1,4 @@
 use native.Mathlib.Omega.{arith}
-use borrow.Author.Needs.{needs}
 use Rattle.kept.proofs.Returns.{plan-no-head, plan-no-frame, plan-keep}
 use Rattle.kept.proofs.plan_by.Statement.{statement}
 use Rattle.kept.proofs.plan_by.Tie as tie

@@ -1,6 +1,5 @@
 use mathlib.Core.Path.{_∙_, sym, ap}
 use native.Mathlib.Omega.{arith}
-use borrow.Author.Needs.{needs}
 use Rattle.blocks.specs.declared.Walked.{Walked}
 use Rattle.kept.proofs.Plans.{plan-long, plan-buffer, plan-walked, plan-room}
 use Rattle.kept.proofs.planned.Statement.{statement}
