@@ -103,7 +103,7 @@ fn packed(four: [u16; 4]) -> u64 {
 }
 
 /// Many numbers as one.
-fn as_one(start: u64, all: impl IntoIterator<Item = u64>) -> u64 {
+pub fn as_one(start: u64, all: impl IntoIterator<Item = u64>) -> u64 {
     all.into_iter()
         .fold(start, |sum, n| (31 * (sum % MANY) + n % MANY) % MANY)
 }

@@ -1,13 +1,17 @@
-//! The command line over the library: tables, numbers, listings, hearings, salvaging and cases.
+//! The command line over the library: tables, numbers, listings, hearings, salvaging, the tally book
+//! and cases.
 
-use outside::{cases, exchange, hear, leaves, lent, listing, recording, salvage, tables, uploads};
+use outside::{
+    cases, exchange, hear, histories, leaves, lent, listing, recording, salvage, sheet, tables,
+    uploads,
+};
 use std::fs;
 use std::io::{self, Read, Write};
 use std::path::{Path, PathBuf};
 use std::process::ExitCode;
 
 const USAGE: &str =
-    "usage: outside tables | sample | list | hear | salvage | lent | lent-case | edges | recording SEED N | recordings DIR N SEED | cuts DIR | uploads DIR N SEED | leaves | leaf-cases [KIND MORE SEED] | windows DIR | exchange | exchange-cases";
+    "usage: outside tables | sample | list | hear | salvage | lent | lent-case | sheet | sheet-cases | histories DIR N SEED | edges | recording SEED N | recordings DIR N SEED | cuts DIR | uploads DIR N SEED | leaves | leaf-cases [KIND MORE SEED] | windows DIR | exchange | exchange-cases";
 
 /// Recordings longer than this get no `.hear` file.
 const LONGEST_HEARD: usize = 20_000;
@@ -32,6 +36,12 @@ fn main() -> ExitCode {
         ["salvage"] => input().and_then(|recording| print_salvaged(&recording)),
         ["lent"] => first(lent::LONGEST_CASE).and_then(|case| print(&lent::answer(&case))),
         ["lent-case"] => print(&lent::case()),
+        ["sheet"] => first(sheet::LONGEST).and_then(|calls| print(&sheet::answers(&calls))),
+        ["sheet-cases"] => print(&sheet::cases()),
+        ["histories", folder, count, seed] => match (count.parse(), seed.parse()) {
+            (Ok(count), Ok(seed)) => histories(Path::new(folder), count, seed),
+            _ => return usage(),
+        },
         ["edges"] => print(edges().as_bytes()),
         ["recording", seed, n] => match (seed.parse(), n.parse()) {
             (Ok(seed), Ok(n)) => print(&cases::recording(seed, n)),
@@ -117,7 +127,7 @@ fn windows(folder: &Path) -> io::Result<()> {
     Ok(())
 }
 
-/// The file of a recording by its number.
+/// The file of a recording or a history by its number.
 fn file(folder: &Path, n: usize, ending: &str) -> PathBuf {
     folder.join(format!("{n:05}.{ending}"))
 }
@@ -136,6 +146,21 @@ fn salvages(folder: &Path, all: impl IntoIterator<Item = Vec<u8>>) -> io::Result
     fs::create_dir_all(folder)?;
     for (n, bytes) in all.into_iter().enumerate() {
         write_salvaged(folder, n, &bytes)?;
+    }
+    Ok(())
+}
+
+/// Writes histories with what is said of each: the named ones first.
+fn histories(folder: &Path, count: usize, seed: u64) -> io::Result<()> {
+    fs::create_dir_all(folder)?;
+    let mut named = histories::named().into_iter();
+    for n in 0..count {
+        let calls = match named.next() {
+            Some(history) => history.calls,
+            None => histories::history(seed, n as u64),
+        };
+        fs::write(file(folder, n, "calls"), &calls)?;
+        fs::write(file(folder, n, "said"), sheet::answers(&calls))?;
     }
     Ok(())
 }

@@ -36,4 +36,10 @@ impl Refusal {
 
     /// Refusal 6: the expansion bit is set.
     pub const EXPANSION: Refusal = Refusal::new(6, 0);
+
+    /// Refusal 13: the key is held with another count.
+    pub const OTHER_COUNT: Refusal = Refusal::new(13, 0);
+
+    /// Refusal 14: the book is full and the key is new.
+    pub const BOOK_FULL: Refusal = Refusal::new(14, 0);
 }
