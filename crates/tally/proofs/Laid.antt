@@ -9,21 +9,17 @@ use native.Mathlib.Decide.{ℕ-discrete}
 use lib.ListN.{length, getD, set, length-set, length-append, List·getD-append}
 use lib.Seq.{getD-set-same, getD-set-other, getD-append-seam}
 use Rattle.laws.specs.Tabulate.{tabulate}
-use Rattle.laws.proofs.Tabulate.{getD-tabulate, tabulate-is}
+use Rattle.laws.proofs.Tabulate.{tabulate-is}
 use Rattle.tally.specs.Tally.{most, tallyOf, entriesBy, entriesThen, numberOf}
 use Rattle.tally.specs.Book.{words, entriesIn, entryAt, entriesOf, laidIn, tallied, bookBy, bookThen}
 use Rattle.tally.specs.History.{IsBook}
 use Rattle.tally.specs.declared.Entry.{Entry}
 use Rattle.tally.specs.declared.Tallied.{Tallied}
 use Rattle.tally.specs.declared.Tallied.the-variants.{Entered, AlreadyHeld, OtherCount, Full}
-use Rattle.tally.proofs.Rows.{entries-told, entries-length}
+use Rattle.tally.proofs.Rows.{entries-told, entries-length, row-holds}
 use Rattle.tally.proofs.Ways.{Way, held, other, full, new, ways, entries-are}
 
--- the entries are the rows
-pub row-holds : (b : List ℕ) (k : ℕ) (d : Entry) → k < entriesIn b → getD (entriesOf b) k d ≡ entryAt b k
-unfolding entriesOf
-row-holds b k d h = getD-tabulate (entryAt b) d (entriesIn b) k h
-
+-- the entries are so many rows
 all-rows : (b : List ℕ) {n : ℕ} → entriesIn b ≡ n → entriesOf b ≡ tabulate (entryAt b) n
 unfolding entriesOf
 all-rows b h = ap (tabulate (entryAt b)) h

@@ -32,10 +32,10 @@ use Rattle.tally.specs.declared.Tallied.{Tallied}
 use Rattle.tally.specs.declared.Tallied.the-variants.{Entered, AlreadyHeld, OtherCount, Full}
 use Rattle.tally.specs.declared.Entering.{Entering}
 use Rattle.tally.specs.declared.Entering.the-variants as Entering
-use Rattle.tally.proofs.Rows.{entries-fit, entries-told, entries-length}
+use Rattle.tally.proofs.Rows.{entries-fit, entries-told, entries-length, row-holds}
 use Rattle.tally.proofs.Keys.{held-among, distinct-holds}
 use Rattle.tally.proofs.Ways.{Way, held, other, full, new, answered, ways, fresh, taken, taken-answers, Same}
-use Rattle.tally.proofs.Laid.{row-holds, then-long, then-entries}
+use Rattle.tally.proofs.Laid.{then-long, then-entries}
 use Rattle.tally.proofs.Ways.{Exchanged, exchanged}
 use Rattle.tally.proofs.Histories.{after, accepts, after-append, accepts-append, firsts, taken-held, accepted-held}
 use Rattle.tally.proofs.Histories.{NoTwice, after-twice, AllTaken, all-accepts, AsWell, reordered, all-taken}

@@ -12,14 +12,14 @@ use lib.Dec.{eqb, ltb}
 use lib.ListN.{length, getD}
 use Rattle.laws.specs.Table.{both}
 use Rattle.laws.specs.Tabulate.{tabulateFrom}
-use Rattle.laws.proofs.Tabulate.{length-tabulate}
+use Rattle.laws.proofs.Tabulate.{length-tabulate, getD-tabulate}
 use Rattle.blocks.specs.Walk.{walkedOf}
 use Rattle.blocks.specs.declared.Cause.{Cause}
 use Rattle.blocks.specs.declared.Ending.the-variants as Ending
 use Rattle.blocks.specs.declared.Walked.{Walked}
 use Rattle.tally.specs.Tally.{hasKey, holdingIn, share, totalIn, tallyNew, tallyBy, tallyOf}
 use Rattle.tally.specs.Book.{entriesIn, entryAt, entriesOf, laidIn, tallied, bookBy, bookThen}
-use Rattle.tally.specs.Book.{tallyOrFull, appended}
+use Rattle.tally.specs.Book.{placeOf, tallyOrFull, appended}
 use Rattle.tally.specs.Entering.{entryOf, recordingEntry, enteringOf, bookAfterRecording}
 use Rattle.tally.specs.declared.Entry.{Entry}
 use Rattle.tally.specs.declared.Entering.the-variants.{Done, Refused}
@@ -67,50 +67,124 @@ entries-fit b = go (decLe (getD b 0 0) 4096)
     go (yes h) = omega (arith, entries-told b h)
     go (no h) = omega (arith, entries-most b (omega arith))
 
+pub told-fits : (b : List ℕ) {told : ℕ} → told ≡ entriesIn b → told ≤ 4096
+told-fits b e = omega (arith, entries-fit b)
+
 -- as many are listed
 pub entries-length : (b : List ℕ) → length (entriesOf b) ≡ entriesIn b
 unfolding entriesOf
 entries-length b = length-tabulate (entryAt b) (entriesIn b)
 
--- `ask` looks at row after row: what the rows from here on hold is what the book holds
-pub record Asking (b : List ℕ) (end unit number i : ℕ) : Type 0 where
+-- `row_of` looks at row after row: the place of the key among the rows from here on is its place in the book
+pub record Seeking (b : List ℕ) (end unit number i : ℕ) : Type 0 where
   pub short : end ≤ 4096
-  pub left : holdingIn (rest b end i) unit number ≡ holdingIn (entriesOf b) unit number
+  pub passed : i ≤ end
+  pub left : i + placeOf (rest b end i) unit number ≡ placeOf (entriesOf b) unit number
 
-pub asking : (b : List ℕ) (end unit number : ℕ) → end ≡ entriesIn b → Asking b end unit number 0
-asking b end unit number e =
+pub seeking : (b : List ℕ) (end unit number : ℕ) → end ≡ entriesIn b → Seeking b end unit number 0
+seeking b end unit number e =
     record {
       short = omega (arith, entries-fit b);
-      left = ap (λ (es : List Entry). holdingIn es unit number) (rest-all b end e);
+      passed = omega arith;
+      left = omega (arith, ap (λ (es : List Entry). placeOf es unit number) (rest-all b end e));
     }
 
-module _ {b : List ℕ} {end unit number i : ℕ} (a : Asking b end unit number i) where
+module _ {b : List ℕ} {end unit number i : ℕ} (a : Seeking b end unit number i) where
   -- what the row here makes of it
   here : i < end → (k : Bool) → hasKey unit number (entryAt b i) ≡ k
-      → cond k (Count (getD b (8193 + i) 0)) (holdingIn (rest b end (i + 1)) unit number) ≡ holdingIn (entriesOf b) unit number
-  unfolding holdingIn
+      → i + cond k 0 (suc (placeOf (rest b end (i + 1)) unit number)) ≡ placeOf (entriesOf b) unit number
+  unfolding placeOf
   here h k e =
-      ap (λ (x : Bool). cond x (Count (getD b (8193 + i) 0)) (holdingIn (rest b end (i + 1)) unit number)) (sym e)
-      ∙ sym (ap (λ (es : List Entry). holdingIn es unit number) (rest-next b end i h))
+      ap (λ (x : Bool). i + cond x 0 (suc (placeOf (rest b end (i + 1)) unit number))) (sym e)
+      ∙ sym (ap (λ (es : List Entry). i + placeOf es unit number) (rest-next b end i h))
       ∙ a .left
 
   -- it has the key
-  pub asked-found : i < end → getD b (1 + i) 0 ≡ number → getD b (4097 + i) 0 ≡ unit
-      → Count (getD b (8193 + i) 0) ≡ holdingIn (entriesOf b) unit number
-  asked-found h n u = here h true (ap₂ both (eq-eqb _ _ n) (eq-eqb _ _ u))
+  pub sought-found : i < end → getD b (1 + i) 0 ≡ number → getD b (4097 + i) 0 ≡ unit
+      → i ≡ placeOf (entriesOf b) unit number
+  sought-found h n u = let f = here h true (ap₂ both (eq-eqb _ _ n) (eq-eqb _ _ u)) in omega (arith, f)
 
   -- it has another number, or another unit
-  pub asked-number : i < end → (getD b (1 + i) 0 ≡ number → ⊥) → Asking b end unit number (i + 1)
-  asked-number h n =
-      record { short = a .short; left = here h false (ap (λ (x : Bool). both x (eqb (getD b (4097 + i) 0) unit)) (ne-eqb _ _ n)) }
+  pub sought-number : i < end → (getD b (1 + i) 0 ≡ number → ⊥) → Seeking b end unit number (i + 1)
+  sought-number h n =
+      let f = here h false (ap (λ (x : Bool). both x (eqb (getD b (4097 + i) 0) unit)) (ne-eqb _ _ n)) in
+      record { short = a .short; passed = omega arith; left = omega (arith, f) }
 
-  pub asked-unit : i < end → getD b (1 + i) 0 ≡ number → (getD b (4097 + i) 0 ≡ unit → ⊥) → Asking b end unit number (i + 1)
-  asked-unit h n u = record { short = a .short; left = here h false (ap₂ both (eq-eqb _ _ n) (ne-eqb _ _ u)) }
+  pub sought-unit : i < end → getD b (1 + i) 0 ≡ number → (getD b (4097 + i) 0 ≡ unit → ⊥)
+      → Seeking b end unit number (i + 1)
+  sought-unit h n u =
+      let f = here h false (ap₂ both (eq-eqb _ _ n) (ne-eqb _ _ u)) in
+      record { short = a .short; passed = omega arith; left = omega (arith, f) }
 
   -- all rows were looked at
-  pub asked-none : end ≤ i → Nothing ≡ holdingIn (entriesOf b) unit number
-  unfolding holdingIn
-  asked-none h = sym (ap (λ (es : List Entry). holdingIn es unit number) (rest-none b end i h)) ∙ a .left
+  pub sought-none : end ≤ i → i ≡ placeOf (entriesOf b) unit number
+  unfolding placeOf
+  sought-none h =
+      let f = ap (λ (es : List Entry). i + placeOf es unit number) (rest-none b end i h) in
+      omega (arith, f, a .left)
+
+-- what is held, by the place of a key
+place-held : (d : Entry) (es : List Entry) (unit number : ℕ) → placeOf es unit number < length es
+    → holdingIn es unit number ≡ Count (getD es (placeOf es unit number) d .count)
+unfolding placeOf holdingIn
+place-held d [] unit number h = absurd (omega arith)
+place-held d (e ∷ es) unit number h = by (hasKey unit number e) refl (place-held d es unit number)
+  where
+    by : (t : Bool) → hasKey unit number e ≡ t
+        → (placeOf es unit number < length es
+        → holdingIn es unit number ≡ Count (getD es (placeOf es unit number) d .count))
+        → holdingIn (e ∷ es) unit number ≡ Count (getD (e ∷ es) (placeOf (e ∷ es) unit number) d .count)
+    by true q rest = rw q
+    by false q rest =
+        let g : placeOf (e ∷ es) unit number ≡ suc (placeOf es unit number) = rw q in
+        rw q (rest (omega (arith, g)))
+
+place-none : (es : List Entry) (unit number : ℕ) → length es ≤ placeOf es unit number → holdingIn es unit number ≡ Nothing
+unfolding placeOf holdingIn
+place-none [] unit number h = refl
+place-none (e ∷ es) unit number h = by (hasKey unit number e) refl (place-none es unit number)
+  where
+    by : (t : Bool) → hasKey unit number e ≡ t → (length es ≤ placeOf es unit number → holdingIn es unit number ≡ Nothing)
+        → holdingIn (e ∷ es) unit number ≡ Nothing
+    by true q rest =
+        let g : placeOf (e ∷ es) unit number ≡ 0 = rw q in
+        absurd (omega (arith, g))
+    by false q rest =
+        let g : placeOf (e ∷ es) unit number ≡ suc (placeOf es unit number) = rw q in
+        rw q (rest (omega (arith, g)))
+
+-- no key stands past the row after all
+place-within : (es : List Entry) (unit number : ℕ) → placeOf es unit number ≤ length es
+unfolding placeOf
+place-within [] unit number = omega arith
+place-within (e ∷ es) unit number = by (hasKey unit number e) refl (place-within es unit number)
+  where
+    by : (t : Bool) → hasKey unit number e ≡ t → placeOf es unit number ≤ length es
+        → placeOf (e ∷ es) unit number ≤ length (e ∷ es)
+    by true q rest = let g : placeOf (e ∷ es) unit number ≡ 0 = rw q in omega (arith, g)
+    by false q rest =
+        let g : placeOf (e ∷ es) unit number ≡ suc (placeOf es unit number) = rw q in omega (arith, g, rest)
+
+-- the same of a book, whose entries are its rows
+pub row-holds : (b : List ℕ) (k : ℕ) (d : Entry) → k < entriesIn b → getD (entriesOf b) k d ≡ entryAt b k
+unfolding entriesOf
+row-holds b k d h = getD-tabulate (entryAt b) d (entriesIn b) k h
+
+module _ (b : List ℕ) (unit number : ℕ) {row end : ℕ} (found : row ≡ placeOf (entriesOf b) unit number) (told : end ≡ entriesIn b) where
+  pub row-held : row < end → Count (getD b (8193 + row) 0) ≡ holdingIn (entriesOf b) unit number
+  row-held h =
+      let n = entries-length b in
+      let l : row < entriesIn b = omega arith in
+      sym
+      (place-held (entryAt b row) (entriesOf b) unit number (omega (arith, n))
+      ∙ ap (λ (k : ℕ). Count (getD (entriesOf b) k (entryAt b row) .count)) (sym found)
+      ∙ ap (λ (e : Entry). Count (e .count)) (row-holds b row (entryAt b row) l))
+
+  pub row-none : end ≤ row → Nothing ≡ holdingIn (entriesOf b) unit number
+  row-none h = let n = entries-length b in sym (place-none (entriesOf b) unit number (omega (arith, n)))
+
+  pub row-after : end ≤ row → row ≡ entriesIn b
+  row-after h = let n = entries-length b in omega (arith, n, place-within (entriesOf b) unit number)
 
 -- `total` sums row after row: the sum so far and what the rows from here on add is the total, and no sum so far is too
 -- large for 64 bits
@@ -180,35 +254,34 @@ room b e {row} told h =
     (rw f, rw (f, told))
 
 -- `enter` goes by what is held: the same count, another one, nothing
-module _ (b : List ℕ) (e : Entry) {h : Holding} (asked : h ≡ holdingIn (entriesOf b) (e .unit) (e .number)) where
+module _ (b : List ℕ) (e : Entry) where
   -- what is answered, and the book then
   abbrev Answers : Tallied → List ℕ → Type 0
   Answers t after = (t ≡ tallied b e) × (after ≡ bookThen b e)
 
-  by : (t : Tallied) → tallyBy h (length (entriesOf b)) (e .count) ≡ t → Answers t (bookBy t b e)
+  by : (h : Holding) → h ≡ holdingIn (entriesOf b) (e .unit) (e .number) → (t : Tallied)
+      → tallyBy h (length (entriesOf b)) (e .count) ≡ t → Answers t (bookBy t b e)
   unfolding tallyOf bookThen
-  by t f =
-      let g : tallyOf (entriesOf b) e ≡ t = ap (λ (x : Holding). tallyBy x (length (entriesOf b)) (e .count)) (sym asked) ∙ f in
+  by h asked t f =
+      let g : tallyOf (entriesOf b) e ≡ t =
+      ap (λ (x : Holding). tallyBy x (length (entriesOf b)) (e .count)) (sym asked) ∙ f
+      in
       (sym g, ap (λ (x : Tallied). bookBy x b e) (sym g))
 
-  pub held-same : {held : ℕ} → h ≡ Count held → held ≡ e .count → Answers AlreadyHeld b
+  pub held-same : {held : ℕ} → Count held ≡ holdingIn (entriesOf b) (e .unit) (e .number) → held ≡ e .count
+      → Answers AlreadyHeld b
   held-same {held} c f =
-      by AlreadyHeld
-      (ap (λ (x : Holding). tallyBy x (length (entriesOf b)) (e .count)) c
-      ∙ ap (λ (x : Bool). cond x AlreadyHeld OtherCount) (eq-eqb held (e .count) f))
+      by (Count held) c AlreadyHeld (ap (λ (x : Bool). cond x AlreadyHeld OtherCount) (eq-eqb held (e .count) f))
 
-  pub held-other : {held : ℕ} → h ≡ Count held → (held ≡ e .count → ⊥) → Answers OtherCount b
+  pub held-other : {held : ℕ} → Count held ≡ holdingIn (entriesOf b) (e .unit) (e .number) → (held ≡ e .count → ⊥)
+      → Answers OtherCount b
   held-other {held} c f =
-      by OtherCount
-      (ap (λ (x : Holding). tallyBy x (length (entriesOf b)) (e .count)) c
-      ∙ ap (λ (x : Bool). cond x AlreadyHeld OtherCount) (ne-eqb held (e .count) f))
+      by (Count held) c OtherCount (ap (λ (x : Bool). cond x AlreadyHeld OtherCount) (ne-eqb held (e .count) f))
 
-  pub held-none : {t : Tallied} {after : List ℕ} → h ≡ Nothing → t ≡ tallyOrFull b → after ≡ appended b e → Answers t after
+  pub held-none : {t : Tallied} {after : List ℕ} → Nothing ≡ holdingIn (entriesOf b) (e .unit) (e .number)
+      → t ≡ tallyOrFull b → after ≡ appended b e → Answers t after
   held-none {t} {after} c f g =
-      let k : tallyBy h (length (entriesOf b)) (e .count) ≡ tallyOrFull b =
-      ap (λ (x : Holding). tallyBy x (length (entriesOf b)) (e .count)) c ∙ ap tallyNew (entries-length b)
-      in
-      let w = by (tallyOrFull b) k in
+      let w = by Nothing c (tallyOrFull b) (ap tallyNew (entries-length b)) in
       (f ∙ w .0, g ∙ w .1)
 
 -- `enter_recording` goes by how the walk ends

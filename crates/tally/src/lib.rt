@@ -7,7 +7,7 @@ use blocks::Heading;
 ghost use mathlib.Core.Path.{_≡_};
 ghost use Prim.Native.Nat.{_≤_};
 ghost use Rattle.tally.specs.Tally.{numberOf, holdingIn, totalIn};
-ghost use Rattle.tally.specs.Book.{entriesIn, entriesOf, emptied, tallied, bookThen, tallyOrFull, appended};
+ghost use Rattle.tally.specs.Book.{entriesIn, entriesOf, emptied, tallied, bookThen, placeOf, tallyOrFull, appended};
 ghost use Rattle.tally.specs.Entering.{entryOf, enteringOf, bookAfterRecording};
 
 // How many words a book has.
@@ -77,34 +77,47 @@ pub fn entries(book: &[u32; WORDS]) -> u32
 pub fn ask(book: &[u32; WORDS], unit: u32, number: u32) -> Holding
     ensures { λ r. ⌜ r ≡ holdingIn (entriesOf (now (book .entry))) unit number ⌝ }
 {
+    let row = row_of(book, unit, number);
     let end = entries(book) as usize;
-    let mut i = 0;
-    while i < end {
-        let number_at = 1 + i;
-        if book[number_at] == number {
-            let unit_at = 4097 + i;
-            if book[unit_at] == unit {
-                let count_at = 8193 + i;
-                return Holding::Count(book[count_at]);
-            }
-        }
-        i += 1;
+    if row < end {
+        let told_at = 8193 + row;
+        return Holding::Count(book[told_at]);
     }
     Holding::Nothing
+}
+
+// The first row with a key; the row after all entries where none has it. Numbers differ more often than units, so they are compared
+// first.
+fn row_of(book: &[u32; WORDS], unit: u32, number: u32) -> usize
+    ensures { λ r. ⌜ r ≡ placeOf (entriesOf (now (book .entry))) unit number ⌝ }
+{
+    let end = entries(book) as usize;
+    let mut row = 0;
+    while row < end {
+        let number_at = 1 + row;
+        if book[number_at] == number {
+            let unit_at = 4097 + row;
+            if book[unit_at] == unit {
+                return row;
+            }
+        }
+        row += 1;
+    }
+    row
 }
 
 // The total for a unit.
 pub fn total(book: &[u32; WORDS], unit: u32) -> u64
     ensures { λ r. ⌜ r ≡ totalIn (entriesOf (now (book .entry))) unit ⌝ }
 {
-    let end = entries(book) as usize;
+    let last = entries(book) as usize;
     let mut sum: u64 = 0;
     let mut i = 0;
-    while i < end {
-        let unit_at = 4097 + i;
-        if book[unit_at] == unit {
-            let count_at = 8193 + i;
-            sum += wide(book[count_at]);
+    while i < last {
+        let owner_at = 4097 + i;
+        if book[owner_at] == unit {
+            let added_at = 8193 + i;
+            sum += wide(book[added_at]);
         }
         i += 1;
     }
@@ -126,34 +139,35 @@ pub fn enter(book: &mut [u32; WORDS], entry: Entry) -> Tallied
 {
     let unit = entry.unit;
     let number = entry.number;
-    match ask(book, unit, number) {
-        Holding::Count(held) => {
-            if held == entry.count {
-                return Tallied::AlreadyHeld;
-            }
-            Tallied::OtherCount
+    let row = row_of(book, unit, number);
+    let held = entries(book) as usize;
+    if row < held {
+        let held_at = 8193 + row;
+        if book[held_at] == entry.count {
+            return Tallied::AlreadyHeld;
         }
-        Holding::Nothing => append(book, entry),
+        return Tallied::OtherCount;
     }
+    append(book, row, entry)
 }
 
-// Lays an entry after those that a book holds, where there is room.
-fn append(book: &mut [u32; WORDS], entry: Entry) -> Tallied
+// Lays an entry into the row after those that a book holds, where there is one.
+fn append(book: &mut [u32; WORDS], row: usize, entry: Entry) -> Tallied
+    requires { ⌜ row ≡ entriesIn (now book) ⌝ }
     ensures { λ r. ⌜ r ≡ tallyOrFull (now (book .entry)) ⌝ }
     ensures { λ _. ⌜ now (book .exit) ≡ appended (now (book .entry)) entry ⌝ }
 {
-    let row = entries(book);
-    if 4096 <= row {
-        return Tallied::Full;
+    if row < 4096 {
+        let number_at = 1 + row;
+        book[number_at] = entry.number;
+        let unit_at = 4097 + row;
+        book[unit_at] = entry.unit;
+        let count_at = 8193 + row;
+        book[count_at] = entry.count;
+        book[0] = row as u32 + 1;
+        return Tallied::Entered;
     }
-    let number_at = 1 + row as usize;
-    book[number_at] = entry.number;
-    let unit_at = 4097 + row as usize;
-    book[unit_at] = entry.unit;
-    let count_at = 8193 + row as usize;
-    book[count_at] = entry.count;
-    book[0] = row + 1;
-    Tallied::Entered
+    Tallied::Full
 }
 
 // Enters a recording with the count that was spoken in it: its own refusal first, and then as its unit and number are entered.

@@ -1,42 +1,30 @@
--- `tally::ask` meets its contract. The loop's invariant: what the rows from `i` on hold under the key is what the book
--- holds. Each turn is one of `Asking`.
+-- `tally::ask` meets its contract, by the row of the key.
 -- Assumes nothing.
-use mathlib.Core.Logic.{⊎-elim}
-use Prim.Native.Nat.{_-_}
 use native.Mathlib.Omega.{arith}
 use borrow.Author.Needs.{needs}
-use Rattle.tally.proofs.Rows.{Asking, asking, asked-found, asked-number, asked-unit, asked-none}
+use Rattle.tally.proofs.Rows.{told-fits, row-held, row-none}
 use Rattle.tally.proofs.ask.Statement.{statement}
 use Rattle.tally.proofs.ask.Tie as tie
 
-abbrev Inv-loop : tie.InvT-loop
-Inv-loop book unit number end i₀ i = Asking book end unit number i
+row-of-requires : tie.Need-row-of-requires
+row-of-requires c κs = search needs
 
-abbrev μ-loop : tie.MeasureT-loop
-μ-loop book unit number end i₀ i = end - i
-
-entries-requires : tie.Need-entries-requires Inv-loop μ-loop
+entries-requires : tie.Need-entries-requires
 entries-requires c κs = search needs
 
-loop-holds : tie.Need-loop-holds Inv-loop μ-loop
-loop-holds c = asking _ _ _ _ (c .entries .ensures)
+element-copy-out-t12 : tie.Need-element-copy-out-t12
+element-copy-out-t12 c = omega (arith, told-fits _ (c .before .entries .ensures))
 
-returns : tie.Need-returns Inv-loop μ-loop
+returns : tie.Need-returns
 returns c =
-    let f = c .before .before .before .before .before in
-    asked-found (f .before .loop .inv) (omega arith) (omega arith) (omega arith)
+    let f = c .before .before in row-held _ _ _ (f .before .row-of .ensures) (f .entries .ensures) (omega arith)
 
-loop-again : tie.Need-loop-again Inv-loop μ-loop
-loop-again c =
-    let a = c .before .before .before .loop .inv in
-    ⊎-elim (λ w. asked-unit a (omega arith) (w .0 .taken) (w .2 .left)) (λ w. asked-number a (omega arith) (w .left)) (c .if1 .came)
-
-returns-2 : tie.Need-returns-2 Inv-loop μ-loop
-returns-2 c = asked-none (c .before .loop .inv) (omega arith)
+returns-2 : tie.Need-returns-2
+returns-2 c =
+    let f = c .before in row-none _ _ _ (f .before .row-of .ensures) (f .entries .ensures) (omega arith)
 
 pub ask-spec : {M : Type 1} → statement M
 ask-spec =
     tie.close
-    (tie.spec Inv-loop μ-loop entries-requires (search needs) loop-holds (λ c. omega arith) (search needs)
-    (λ c. omega arith) (λ c. omega arith) (search needs) (λ c. omega arith) (λ c. omega arith) (search needs)
-    (λ c. omega arith) returns (λ c. omega arith) (λ c. omega arith) loop-again returns-2)
+    (tie.spec row-of-requires entries-requires (search needs) (search needs) (search needs) element-copy-out-t12 returns
+    returns-2)

@@ -27,8 +27,8 @@ wide-requires c κs = search needs
 loop-again : tie.Need-loop-again Inv-loop μ-loop
 loop-again c =
     let a = c .before .before .before .loop .inv in
-    ⊎-elim (λ w. summed-own a (omega arith) (w .0 .taken) (w .2 .ensures .0) (w .2 .ensures .1) (w .3))
-    (λ w. summed-other a (omega arith) (w .0 .left) (w .1)) (c .if1 .came)
+    ⊎-elim (λ w. summed-own a (omega arith) (omega arith) (w .2 .ensures .0) (w .2 .ensures .1) (w .3))
+    (λ w. summed-other a (omega arith) (λ q. omega arith) (w .1)) (c .if1 .came)
 
 returns : tie.Need-returns Inv-loop μ-loop
 returns c = summed-all (c .before .loop .inv) (omega arith)
