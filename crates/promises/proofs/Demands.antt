@@ -1,10 +1,11 @@
--- Every statement under the three demands, and of the salvage tool, has its proof.
+-- Every statement under the three demands, of the salvage tool and of the tally book has its proof.
 -- Assumes nothing.
 use Rattle.listing.proofs.Laws as listing
 use Rattle.listing.proofs.Short as short
 use Rattle.salvage.proofs.Laws as salvage
 use Rattle.changes.proofs.Laws as changes
-use Rattle.promises.specs.Demands.{DemandOne, DemandTwo, DemandThree, SalvageTool}
+use Rattle.tally.proofs.Laws as tally
+use Rattle.promises.specs.Demands.{DemandOne, DemandTwo, DemandThree, SalvageTool, TallyBook}
 use Rattle.promises.proofs.Frames as frames
 use Rattle.promises.proofs.Functions as functions
 use Rattle.promises.proofs.Worked as worked
@@ -17,6 +18,7 @@ use Rattle.promises.proofs.Rule as rule
 use Rattle.promises.proofs.Made as made
 use Rattle.promises.proofs.Parts as parts
 use Rattle.promises.proofs.Running as running
+use Rattle.promises.proofs.Tally as salvaged
 
 pub demand-one : DemandOne
 demand-one =
@@ -57,6 +59,9 @@ demand-one =
       refused-listing-stays = listing.refused-listing-stays;
       salvage-refuses = salvage.salvage-refuses;
       salvage-stands = salvage.salvage-stands;
+      tally-refuses = tally.tally-refuses;
+      recording-first = tally.recording-first;
+      tally-stands = tally.tally-stands;
     }
 
 pub demand-two : DemandTwo
@@ -144,4 +149,17 @@ salvage-tool =
       sound-unchanged = salvage.sound-unchanged;
       changes-told = changes.changes-told;
       changes-fit = changes.changes-fit;
+    }
+
+pub tally-book : TallyBook
+tally-book =
+    record {
+      no-key-twice = tally.no-key-twice;
+      total-fits = tally.total-fits;
+      total-of-firsts = tally.total-of-firsts;
+      held-if-accepted = tally.held-if-accepted;
+      same-again = tally.same-again;
+      salvaged-same-key = salvaged.salvaged-same-key;
+      either-order = tally.either-order;
+      any-order = tally.any-order;
     }

@@ -10,4 +10,5 @@ pub mod Parts
 pub mod Running
 pub mod Made
 pub mod RefusalNumbers
+pub mod Tally
 pub mod Demands

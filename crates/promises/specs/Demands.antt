@@ -1,10 +1,12 @@
 -- The three demands, in the words of the person this is built for, and under each the statements that meet it; then
--- what is promised of the salvage tool. A reviewer starts here:
+-- what is promised of the salvage tool and of the tally book. A reviewer starts here:
 -- each name below is a statement of the file beside it, and proofs/Demands.antt holds a proof of every one.
 use Rattle.listing.specs.Promised.{ListingFits, ListingStands, FaultsListed, RefusedListingStays}
 use Rattle.salvage.specs.Promised.{SalvageRefuses, SalvageStands, SalvagedAccepted, KeptUpToRefusal, SoundUnchanged}
 use Rattle.salvage.specs.Promised.{SalvagedAgain, FewestGo, NoEmptyBlock, KeptStands}
 use Rattle.changes.specs.Promised.{ChangesTold, ChangesFit}
+use Rattle.tally.specs.Promised.{TallyRefuses, RecordingFirst, TallyStands, TotalFits, NoKeyTwice, TotalOfFirsts}
+use Rattle.tally.specs.Promised.{HeldIfAccepted, EitherOrder, AnyOrder, SameAgain}
 use Rattle.promises.specs.Frames.{ReadsBack, SameBits, DamageAlone, OneMended, TwoReported, EveryFrameRead}
 use Rattle.promises.specs.Frames.{OneFrame, SixteenFrames}
 use Rattle.promises.specs.Functions.{WriteThenRead, ReadThenWrite, RepairByDamage, OneFlip, TwoFlips, NoTwoFrames}
@@ -27,6 +29,7 @@ use Rattle.promises.specs.Parts.{VoiceBlocksStand, NoSuchBlock, FramesAr
 use Rattle.promises.specs.Parts.{RepairsCounted, BreaksCounted, RefusedHasNone, EmptyRefused}
 use Rattle.promises.specs.Running.{StateRunsOn, NothingBeyond, PassHears, PassCounts, SoFarAlone}
 use Rattle.promises.specs.Worked.{AllTwelve}
+use Rattle.promises.specs.Tally.{SalvagedSameKey}
 
 -- "Every frame, record or recording, however damaged, gets an answer and the call ends. A frame that isn't eighteen
 -- bytes, an index too large for its field, a record to write whose line spectral parameters fall, a delay that can't be
@@ -78,6 +81,10 @@ pub record DemandOne : Type 0 where
   -- salvaging (document 02, K2)
   pub salvage-refuses : SalvageRefuses
   pub salvage-stands : SalvageStands
+  -- the tally book (document 02, K3)
+  pub tally-refuses : TallyRefuses
+  pub recording-first : RecordingFirst
+  pub tally-stands : TallyStands
 
 -- "Reading and writing are those of Federal Standard 1016: the 144 places, the parity, the gains, delays, averaged
 -- parameters and 512 ternary codes. A record the writer accepts reads back equal. A frame that is read writes back to
@@ -181,3 +188,22 @@ pub record SalvageTool : Type 0 where
   -- what is told
   pub changes-told : ChangesTold
   pub changes-fit : ChangesFit
+
+-- Document 02, K3: "it takes unit, recording number and spoken count, 32 bits each, holds up to 4,096 entries, and counts
+-- each unit and number once. The same entry again answers 'already held'. The total for a unit is the sum, over the
+-- distinct entries in the history of accepted calls, of the count that came first. Two accepted entries with different
+-- keys give the same totals and the same answers to 'is it held' in either order."
+--
+-- When it is refused, and that a refusal leaves the book as it was, stands under demand 1.
+pub record TallyBook : Type 0 where
+  -- what it holds
+  pub no-key-twice : NoKeyTwice
+  pub total-fits : TotalFits
+  pub total-of-firsts : TotalOfFirsts
+  pub held-if-accepted : HeldIfAccepted
+  -- once, though it is sent again
+  pub same-again : SameAgain
+  pub salvaged-same-key : SalvagedSameKey
+  -- in any order
+  pub either-order : EitherOrder
+  pub any-order : AnyOrder

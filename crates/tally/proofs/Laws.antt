@@ -413,6 +413,17 @@ module _ (b : List ℕ) (e : Entry) (book : IsBook b) where
     then-leaves (bookThen b e) e (λ q. never-new (tallied b e) (sym second ∙ q)),
   )
 
+-- so an entry that was accepted is already held
+accepted-more : (t : Tallied) → numberOf t ≡ 0 → onceMore t ≡ AlreadyHeld
+accepted-more Entered h = refl
+accepted-more AlreadyHeld h = refl
+accepted-more OtherCount h = absurd (omega arith)
+accepted-more Full h = absurd (omega arith)
+
+pub accepted-again : (b : List ℕ) (e : Entry) → IsBook b → numberOf (tallied b e) ≡ 0
+    → tallied (bookThen b e) e ≡ AlreadyHeld
+accepted-again b e book h = second b e book ∙ accepted-more (tallied b e) h
+
 pub same-again : SameAgain
 unfolding SameAgain enteringOf bookAfterRecording
 same-again b (enter e) book = entry-again b e book
