@@ -1,11 +1,13 @@
 #!/usr/bin/env python3
-"""Makes the recordings of this folder, and what is to be said of each.
+"""Makes the recordings of this folder and the calls on a tally book, and what is to be said of each.
 
-    make.py PROGRAM            writes NAME.rec, NAME.list, NAME.hear and NAME.changes, and NAME.salvaged where something is mended
+    make.py PROGRAM            writes NAME.rec, NAME.list, NAME.hear and NAME.changes, and NAME.salvaged where something is mended;
+                               and of calls NAME.calls and NAME.said
     make.py --check PROGRAM    compares them with what is stored
 
-PROGRAM is the independent program (outside/target/release/outside), called with the word `list`, `hear` or `salvage`. The bytes are laid
-out here, block by block and place by place, by the tables of outside/tables; README.md says what is wrong with each recording.
+PROGRAM is the independent program (outside/target/release/outside), called with the word `list`, `hear`, `salvage` or `sheet`. The bytes
+are laid out here, block by block and place by place, by the tables of outside/tables; README.md says what is wrong with each recording, and
+outside/CASES.md how a call is laid out.
 """
 
 import subprocess
@@ -118,6 +120,40 @@ RECORDINGS = {
 }
 
 
+# A call on a tally book: a byte for its kind, and its numbers; a recording goes along whole.
+def call(kind, *numbers):
+    return kind.encode() + b"".join(number(n) for n in numbers)
+
+
+def enter(unit, recording, count):
+    return call("e", unit, recording, count)
+
+
+def enter_recording(recording, count):
+    return call("r", count, len(recording)) + recording
+
+
+def asks(*keys):
+    """What is asked of some keys and of their units, and how many entries there are."""
+    return b"".join(call("h", *key) for key in keys) + b"".join(call("t", unit) for unit in sorted({unit for unit, _ in keys})) + call("n")
+
+
+def histories(salvaged):
+    """The calls, by name; `salvaged` is what is salvaged of dropped-later.rec."""
+    again, sound = RECORDINGS["sent-again"], RECORDINGS["sound"]
+    asked = asks((12, 345), (12, 346), (7, 1), (7, 2))
+    # 4,095 entries of unit 50, each with a count of 3, laid as words
+    nearly_full = call("w", 1, 4097, 1, 1) + call("w", 4097, 8193, 50, 0) + call("w", 8193, 12289, 3, 0) + call("w", 0, 1, 4095, 0)
+    return {
+        "reconnected": enter_recording(RECORDINGS["dropped-later"], 40) + enter_recording(salvaged, 40) + enter_recording(again, 40)
+        + enter_recording(again, 42) + enter(12, 346, 25) + enter_recording(sound, 15) + enter(7, 1, 15) + asked,
+        "other-order": enter(7, 1, 15) + enter_recording(again, 40) + enter_recording(sound, 15) + enter(12, 346, 25)
+        + enter_recording(salvaged, 40) + asked,
+        "full-book": nearly_full + call("n") + enter(60, 1, 8) + enter(61, 1, 9) + enter(60, 1, 8) + enter(50, 4095, 3)
+        + enter(50, 4095, 4) + asks((60, 1), (61, 1), (50, 4095)),
+    }
+
+
 def said_of(program, recording):
     """What the program says of a recording: the content of each file beside it, by suffix."""
     def run(word, **more):
@@ -134,7 +170,11 @@ def main():
         sys.exit(__doc__)
     made = {name + suffix: content for name, recording in RECORDINGS.items()
             for suffix, content in ({".rec": recording} | said_of(program, recording)).items()}
-    stored = {file.name for file in HERE.iterdir() if file.suffix in (".rec", ".list", ".hear", ".changes", ".salvaged")}
+    for name, calls in histories(made["dropped-later.salvaged"]).items():
+        said = subprocess.run([program, "sheet"], input=calls, stdout=subprocess.PIPE, check=True).stdout
+        made |= {name + ".calls": calls, name + ".said": said}
+    suffixes = {Path(name).suffix for name in made}
+    stored = {file.name for file in HERE.iterdir() if file.suffix in suffixes}
     faults = [f"samples/{name}: nothing here makes it" for name in sorted(stored - set(made))]
     for name, content in made.items():
         file = HERE / name
