@@ -2,13 +2,13 @@
 """Holds numbers and listings in prose to the definitions and to what the programs print.
 
     prose.py                    the programs are those that rt and host/Makefile build
-    prose.py --with PROGRAM     the independent program stands in for `list`, `hear` and `salvager`, but where they are given an argument
+    prose.py --with PROGRAM     the independent program stands in for `list`, `hear`, `salvager` and `sheet`, but where they are given an argument
 
 Listings. In a code block of a page, and in an example of a manual page, a line `$ COMMAND` is followed by what it prints. Each command is
 run and compared (of `rt check NAMES && COMMAND` the second), but those of NOT_RUN, which show nothing, and those of a manual page that
 show nothing. Standard error is shown too; a command may write below target/ and nowhere else. A line that looks like a listing's or a
 change's and follows no command is a fault, and so is one in a sentence that nothing prints. A manual page's recordings are those of samples/.
-Tables. The handbook's correction numbers, refusals and delays, and the two tables of samples/README.md, are compared with the specs, the
+Tables. The handbook's correction numbers, refusals and delays, and the tables of samples/README.md, are compared with the specs, the
 place table and the files. So are sentences of a regular form: a place with its name, places that show a number, a frame and its time, the
 length that four bytes are.
 Names. A path or a `crate::name` that the README, the handbook, the samples' page or CHANGING names is there.
@@ -26,14 +26,15 @@ ROOT = Path(__file__).resolve().parent.parent
 PAGES = ["README.md", "CHANGELOG.md", "docs/*.md", "docs/landings/*.md", "samples/README.md", "outside/*.md"]
 MANUAL = ["host/*.1", "host/*.3"]
 NAMING = ["README.md", "docs/HANDBOOK.md", "docs/CHANGING.md", "samples/README.md"]
-SHOWING = {"README.md": ["list"], "docs/HANDBOOK.md": ["list", "hear", "salvager"], "samples/README.md": ["list", "salvager"],
+SHOWING = {"README.md": ["list"], "docs/HANDBOOK.md": ["list", "hear", "salvager", "sheet"], "samples/README.md": ["list", "salvager"],
            "host/oatlantern-list.1": ["list"], "host/oatlantern-hear.1": ["hear"], "host/oatlantern-salvage.1": ["salvager"],
            "host/oatlantern-decode.1": ["oatlantern-decode"]}
 NOT_RUN = re.compile(r"rt |\.ci/run|cargo |make |cc |git |samples/make\.py |\.ci/prose\.py|python3 ")
 RUN = re.compile(r"(\./run target/\S+|oatlantern-\w+|head|sed -n|cut|tail|od|wc|cmp|diff|printf|echo)\b")
+TALLIED = r"held \d+|total \d+|entries \d+|book \d+"
 CHANGE = r"dropped \d+ bytes from \d+|kept \d+ frames|end written at \d+"
 LISTING = re.compile(r"unit \d+ recording \d+ frames \d+|\d+ \d+ (refused \d+|\d+ [01]( \d+){4})|repaired \d+ breaks \d+|refused \d+ at \d+( \d+)?"
-                     rf"|frame \d+( \d+){{28}} .*|block( \d+){{3}}|{CHANGE}")
+                     rf"|frame \d+( \d+){{28}} .*|block( \d+){{3}}|{CHANGE}|{TALLIED}")
 independent = Path(sys.argv[2]).resolve() if sys.argv[1:2] == ["--with"] else None
 cases, faults = 0, []
 
@@ -123,7 +124,7 @@ def built(command):
 
 def stood_in(command):
     """The same with the independent program, where there is one, for those that it stands in for."""
-    return re.sub(r"\./run target/bin/(list|hear|salvage)r?\b", rf"{independent} \1", command) if independent else command
+    return re.sub(r"\./run target/bin/(list|hear|salvage|sheet)r?\b", rf"{independent} \1", command) if independent else command
 
 
 def file_of(path, command):
@@ -132,7 +133,8 @@ def file_of(path, command):
 
 
 showing = set()
-printed = {line for suffix in ("list", "hear", "changes") for path in pages([f"samples/*.{suffix}"]) for line in read(path).splitlines()}
+SAID = [*(f"samples/*.{suffix}" for suffix in ("list", "hear", "changes", "said")), "crates/sheet/stdout"]
+printed = {line for path in pages(SAID) for line in read(path).splitlines()}
 for path in pages(PAGES) + pages(MANUAL):
     for block in blocks(path):
         asked = [i for i, (_, line) in enumerate(block) if line.startswith("$ ")]
@@ -325,7 +327,16 @@ for n, cells in table(PAGE, "| file | bytes |"):
     hold(said == ", ".join(f"`{line}`" for line in changes), PAGE, n, f"{file.stem}.changes has {changes}")
     mended = bool(changes) and not changes[0].startswith("refused")
     hold(file.with_suffix(".salvaged").exists() == mended, PAGE, n, f"{file.stem}.salvaged is there or not, against {file.stem}.changes")
-for file in pages(["samples/*.rec"]):
+for n, cells in table(PAGE, "| calls | bytes |"):
+    file = ROOT / "samples" / cells[0].strip("`")
+    hold(file.exists(), PAGE, n, f"{cells[0]} is not there")
+    if not file.exists():
+        continue
+    told.add(file.name)
+    hold(int(cells[1]) == file.stat().st_size, PAGE, n, f"{file.name} has {file.stat().st_size} bytes")
+    said = file.with_suffix(".said").read_text(encoding="utf-8").splitlines()
+    hold(cells[3] == ", ".join(f"`{line}`" for line in said), PAGE, n, f"{file.stem}.said has {said}")
+for file in pages(["samples/*.rec", "samples/*.calls"]):
     hold(Path(file).name in told, PAGE, 1, f"{file} is not on the page")
 
 
