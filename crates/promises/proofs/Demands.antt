@@ -154,6 +154,7 @@ salvage-tool =
 pub tally-book : TallyBook
 tally-book =
     record {
+      cleared-empty = tally.cleared-empty;
       no-key-twice = tally.no-key-twice;
       total-fits = tally.total-fits;
       total-of-firsts = tally.total-of-firsts;

@@ -1,27 +1,25 @@
 -- A salvaged recording has the key of the whole one: both are what the head tells, and its bytes are the same.
 -- Assumes nothing.
-use mathlib.Core.Path.{_≡_, _∙_, sym, refl, ap, ap₂}
+use mathlib.Core.Path.{_≡_, _∙_, sym, ap, ap₂}
 use mathlib.Core.List.{List}
-use Prim.Native.Nat.{ℕ, _+_, _*_, _<_}
+use Prim.Native.Nat.{ℕ, _+_, _<_}
 use native.Mathlib.Omega.{arith}
 use lib.ListN.{getD, take}
 use lib.Seq.{getD-take}
 use Rattle.laws.specs.Bytes.{wordAt}
 use Rattle.blocks.specs.Blocks.{headingAt}
+use Rattle.blocks.specs.Frames.{ifSound}
 use Rattle.blocks.specs.Walk.{afterHead, walkedOf}
 use Rattle.blocks.specs.declared.Ending.{Ending}
 use Rattle.blocks.specs.declared.Ending.the-variants.{Sound}
 use Rattle.blocks.specs.declared.Heading.{Heading}
 use Rattle.blocks.proofs.Blocks.{head-held}
 use Rattle.blocks.proofs.Passed.{sound-whole}
-use Rattle.salvage.specs.Promised.{Salvages, SalvagedAccepted}
+use Rattle.salvage.specs.Promised.{SalvagedAccepted}
 use Rattle.salvage.specs.Salvaging.{resultOf}
 use Rattle.salvage.proofs.Laws.{salvaged-accepted}
 use Rattle.tally.specs.Book.{tallied, bookThen}
-use Rattle.tally.specs.Entering.{entryOf, recordingEntry, enteringBy, enteringOf, bookAfterBy, bookAfterRecording, refusalOf}
-use Rattle.tally.specs.History.{IsBook}
-use Rattle.tally.specs.declared.Entry.{Entry}
-use Rattle.tally.specs.declared.Entering.{Entering}
+use Rattle.tally.specs.Entering.{entryOf, recordingEntry, enteringBy, enteringOf, bookAfterRecording, refusalOf}
 use Rattle.tally.specs.declared.Entering.the-variants.{Done}
 use Rattle.tally.proofs.Laws.{accepted-again}
 use Rattle.promises.specs.Tally.{HeldAfter, SalvagedSameKey}
@@ -52,7 +50,7 @@ entered-sound : (s : List ℕ) (count : ℕ) → walkedOf s .ending ≡ Sound �
 unfolding enteringOf bookAfterRecording
 entered-sound s count e b = (
   ap (λ (x : Ending). enteringBy x b (recordingEntry s count)) e,
-  ap (λ (x : Ending). bookAfterBy x b (recordingEntry s count)) e,
+  ap (λ (x : Ending). ifSound x (bookThen b (recordingEntry s count)) b) e,
 )
 
 -- two sound recordings of one entry: the second is already held

@@ -5,8 +5,8 @@ use Rattle.listing.specs.Promised.{ListingFits, ListingStands, FaultsListed, Re
 use Rattle.salvage.specs.Promised.{SalvageRefuses, SalvageStands, SalvagedAccepted, KeptUpToRefusal, SoundUnchanged}
 use Rattle.salvage.specs.Promised.{SalvagedAgain, FewestGo, NoEmptyBlock, KeptStands}
 use Rattle.changes.specs.Promised.{ChangesTold, ChangesFit}
-use Rattle.tally.specs.Promised.{TallyRefuses, RecordingFirst, TallyStands, TotalFits, NoKeyTwice, TotalOfFirsts}
-use Rattle.tally.specs.Promised.{HeldIfAccepted, EitherOrder, AnyOrder, SameAgain}
+use Rattle.tally.specs.Promised.{TallyRefuses, RecordingFirst, TallyStands, TotalFits, ClearedEmpty, NoKeyTwice}
+use Rattle.tally.specs.Promised.{TotalOfFirsts, HeldIfAccepted, EitherOrder, AnyOrder, SameAgain}
 use Rattle.promises.specs.Frames.{ReadsBack, SameBits, DamageAlone, OneMended, TwoReported, EveryFrameRead}
 use Rattle.promises.specs.Frames.{OneFrame, SixteenFrames}
 use Rattle.promises.specs.Functions.{WriteThenRead, ReadThenWrite, RepairByDamage, OneFlip, TwoFlips, NoTwoFrames}
@@ -189,14 +189,15 @@ pub record SalvageTool : Type 0 where
   pub changes-told : ChangesTold
   pub changes-fit : ChangesFit
 
--- Document 02, K3: "it takes unit, recording number and spoken count, 32 bits each, holds up to 4,096 entries, and counts
--- each unit and number once. The same entry again answers 'already held'. The total for a unit is the sum, over the
--- distinct entries in the history of accepted calls, of the count that came first. Two accepted entries with different
--- keys give the same totals and the same answers to 'is it held' in either order."
+-- Document 02, K3: "it takes unit, recording number and spoken count, 32 bits each, holds up to 4,096 entries, and
+-- counts each unit and number once. The same entry again answers 'already held'. The total for a unit is the sum, over
+-- the distinct entries in the history of accepted calls, of the count that came first. Two accepted entries with
+-- different keys give the same totals and the same answers to 'is it held' in either order."
 --
 -- When it is refused, and that a refusal leaves the book as it was, stands under demand 1.
 pub record TallyBook : Type 0 where
   -- what it holds
+  pub cleared-empty : ClearedEmpty
   pub no-key-twice : NoKeyTwice
   pub total-fits : TotalFits
   pub total-of-firsts : TotalOfFirsts

@@ -18,8 +18,8 @@ HeldAfter first second count =
     (b : List ℕ) → IsBook b → refusalOf (enteringOf b first count) ≡ 0
     → enteringOf (bookAfterRecording b first count) second count ≡ Done AlreadyHeld
 
--- a salvaged recording and the whole one have the same key, where its head arrived: the first fourteen bytes are the same.
--- So whichever comes first, the other is already held with the same count.
+-- a salvaged recording and the whole one have the same key, where its head arrived: the first fourteen bytes are the
+-- same. So whichever comes first, the other is already held with the same count.
 unfoldable pub SalvagedSameKey : Type 0
 SalvagedSameKey =
     (s whole : List ℕ) (room count : ℕ) → Salvages s room → walkedOf whole .ending ≡ Sound

@@ -1,5 +1,5 @@
-// Makes the calls that stand on standard input on one tally book, which is empty at first, and prints what each answers.
-// outside/CASES.md has the form of a call and its line.
+// Makes the calls that stand on standard input on one tally book, which is empty at first, and prints what each
+// answers. outside/CASES.md has the form of a call and its line.
 mod call;
 mod said;
 mod words;

@@ -2,28 +2,29 @@
 -- Assumes nothing.
 use mathlib.Core.Path.{_≡_, _∙_, sym, refl, ap, ap₂, subst}
 use mathlib.Core.Bool.{Bool, true, false, cond}
-use mathlib.Core.List.{List, [], _∷_, _++_, append-nil, append-assoc, List·Memᴰ, List·Memᴰ·head, List·Memᴰ·tail}
-use mathlib.Core.List.{List·Memᴰ·append-cases, List·Memᴰ·eq-of-singleton, List·Memᴰ·not-nil, Memᴰ·append-left, Memᴰ·append-right}
+use mathlib.Core.List.{List, [], _∷_, _++_, append-nil, append-assoc, List·Memᴰ·head, List·Memᴰ·append-cases}
+use mathlib.Core.List.{List·Memᴰ·eq-of-singleton, List·Memᴰ·not-nil, Memᴰ·append-left, Memᴰ·append-right}
 use mathlib.Core.Logic.{⊎-elim}
-use Prim.Native.Nat.{ℕ, zero, suc, _+_, _<_, _≤_}
+use Prim.Native.Nat.{ℕ, _+_, _<_}
 use native.Mathlib.Omega.{arith}
 use native.Mathlib.Decide.{ℕ-discrete}
 use borrow.Author.Tests.{eq-eqb, ne-eqb}
 use lib.Dec.{eqb}
 use lib.ListN.{length, getD, length-append, List·getD-append}
 use lib.Seq.{getD-append-seam}
-use Rattle.tally.specs.Tally.{most, hasKey, holdingIn, totalIn, tallyOf, entriesThen, numberOf}
-use Rattle.tally.specs.History.{without, distinct, Among, Agreeing, Fitting, Reordered, none, next, swapped, further}
+use Rattle.tally.specs.Tally.{most, hasKey, holdingIn, tallyOf, entriesThen, numberOf}
+use Rattle.tally.specs.History.{without, distinct, Among, Agreeing, Fitting, Reordered, none, next, swapped}
+use Rattle.tally.specs.History.{further}
 use Rattle.tally.specs.declared.Entry.{Entry}
 use Rattle.tally.specs.declared.Holding.{Holding}
 use Rattle.tally.specs.declared.Holding.the-variants.{Count, Nothing}
 use Rattle.tally.specs.declared.Tallied.{Tallied}
 use Rattle.tally.specs.declared.Tallied.the-variants.{Entered, AlreadyHeld, OtherCount, Full}
-use Rattle.tally.proofs.Keys.{either, key-of, key-turned, entry-is, holding-new, holding-stays, holding-same, held-among, none-at}
-use Rattle.tally.proofs.Keys.{beyond, distinct-holds, distinct-held, distinct-new}
-use Rattle.tally.proofs.Ways.{heldBy, Way, held, other, full, new, answered, ways, entries-are, Taken, again, fresh}
-use Rattle.tally.proofs.Ways.{taken, taken-answers, then-again, then-fresh, Same, same-refl, same-trans, same-then}
-use Rattle.tally.proofs.Ways.{Exchanged, exchanged}
+use Rattle.tally.proofs.Keys.{either, key-of, key-turned, entry-is, holding-new, holding-stays, holding-same}
+use Rattle.tally.proofs.Keys.{held-among, none-at, beyond, distinct-holds, distinct-held, distinct-new}
+use Rattle.tally.proofs.Ways.{heldBy, Way, held, other, full, new, ways, entries-are, Taken, again, fresh, taken}
+use Rattle.tally.proofs.Ways.{taken-answers, then-again, then-fresh, Same, same-refl, same-trans, same-then}
+use Rattle.tally.proofs.Ways.{exchanged}
 
 -- the entries after some are entered, and those of them that are accepted
 unfoldable pub after : List Entry → List Entry → List Entry
@@ -48,7 +49,8 @@ unfolding after accepts
 accepts-append es [] l = refl
 accepts-append es (e ∷ k) l =
     ap (λ (x : List Entry). ifTaken (tallyOf es e) e ++ x) (accepts-append (entriesThen es e) k l)
-    ∙ sym (append-assoc (ifTaken (tallyOf es e) e) (accepts (entriesThen es e) k) (accepts (after (entriesThen es e) k) l))
+    ∙ sym (append-assoc (ifTaken (tallyOf es e) e) (accepts (entriesThen es e) k)
+    (accepts (after (entriesThen es e) k) l))
 
 -- a step of each, by what is answered and what the entries then are
 module _ (es : List Entry) (e : Entry) (l : List Entry) {t : Tallied} {fs : List Entry} (answer : tallyOf es e ≡ t)
@@ -71,14 +73,16 @@ one-more p l e = append-assoc p (e ∷ []) l
 held-first : (p : List Entry) (e : Entry) {es : List Entry} {c : ℕ} → es ≡ distinct p → heldBy es e ≡ Count c
     → es ≡ distinct (p ++ (e ∷ []))
 held-first p e f h =
-    f ∙ sym (distinct-held p e (sym (distinct-holds p (e .unit) (e .number)) ∙ sym (ap (λ (x : List Entry). heldBy x e) f) ∙ h))
+    f ∙ sym (distinct-held p e (sym (distinct-holds p (e .unit) (e .number))
+    ∙ sym (ap (λ (x : List Entry). heldBy x e) f) ∙ h))
 
 new-first : (p : List Entry) (e : Entry) {es : List Entry} → es ≡ distinct p → heldBy es e ≡ Nothing
     → es ++ (e ∷ []) ≡ distinct (p ++ (e ∷ []))
 unfolding distinct without beyond
 new-first p e f h =
     ap (λ (x : List Entry). x ++ (e ∷ [])) f
-    ∙ sym (distinct-new p [] e (sym (distinct-holds p (e .unit) (e .number)) ∙ sym (ap (λ (x : List Entry). heldBy x e) f) ∙ h))
+    ∙ sym (distinct-new p [] e (sym (distinct-holds p (e .unit) (e .number))
+    ∙ sym (ap (λ (x : List Entry). heldBy x e) f) ∙ h))
 
 -- what a step comes to, given what the rest does
 module _ (e : Entry) (l p es : List Entry) (f : es ≡ distinct p)
@@ -91,7 +95,8 @@ module _ (e : Entry) (l p es : List Entry) (f : es ≡ distinct p)
       ∙ ap distinct
       (one-more p (accepts fs l) e
       ∙ ap (λ (x : List Entry). p ++ x)
-      (sym (accepts-step es e l answer later ∙ ap (λ (b : Bool). cond b (e ∷ []) [] ++ accepts fs l) (eq-eqb (numberOf t) 0 z))))
+      (sym (accepts-step es e l answer later ∙ ap (λ (b : Bool). cond b (e ∷ []) [] ++ accepts fs l)
+      (eq-eqb (numberOf t) 0 z))))
 
   left-first : {t : Tallied} → tallyOf es e ≡ t → (numberOf t ≡ 0 → ⊥) → entriesThen es e ≡ es
       → after es (e ∷ l) ≡ distinct (p ++ accepts es (e ∷ l))
@@ -99,7 +104,8 @@ module _ (e : Entry) (l p es : List Entry) (f : es ≡ distinct p)
       after-step es e l answer later
       ∙ rest p es f
       ∙ ap (λ (x : List Entry). distinct (p ++ x))
-      (sym (accepts-step es e l answer later ∙ ap (λ (b : Bool). cond b (e ∷ []) [] ++ accepts es l) (ne-eqb (numberOf t) 0 z)))
+      (sym (accepts-step es e l answer later ∙ ap (λ (b : Bool). cond b (e ∷ []) [] ++ accepts es l)
+      (ne-eqb (numberOf t) 0 z)))
 
   way-first : (t : Tallied) → tallyOf es e ≡ t → Way es e t → after es (e ∷ l) ≡ distinct (p ++ accepts es (e ∷ l))
   way-first AlreadyHeld q (held h) = taken-first q refl (entries-are es e q) (held-first p e f h)
@@ -168,7 +174,8 @@ module _ (d : Entry) (es : List Entry) (e : Entry) (p : NoTwice d es) (h : heldB
   behind-apart i j l m (yes q) =
       let a : i < length es = omega arith in
       let f : getD (es ++ (e ∷ [])) i d ≡ getD es i d = List·getD-append es (e ∷ []) d i a in
-      let g : getD (es ++ (e ∷ [])) j d ≡ e = ap (λ (k : ℕ). getD (es ++ (e ∷ [])) k d) q ∙ getD-append-seam es e [] d in
+      let g : getD (es ++ (e ∷ [])) j d ≡ e = ap (λ (k : ℕ). getD (es ++ (e ∷ [])) k d) q ∙ getD-append-seam es e [] d
+      in
       ap₂ (λ (x y : Entry). hasKey (x .unit) (x .number) y) f g
       ∙ key-turned (getD es i d) e
       ∙ none-at d es (e .unit) (e .number) h i a
@@ -212,7 +219,8 @@ all-accepts (e ∷ l) es a =
 -- in lists that answer alike the same is accepted
 same-taken : (es fs : List Entry) (e : Entry) → Same es fs → Taken es e → Taken fs e
 same-taken es fs e s (again h) = again (sym (s .holds (e .unit) (e .number)) ∙ h)
-same-taken es fs e s (fresh h l) = fresh (sym (s .holds (e .unit) (e .number)) ∙ h) (subst (λ (n : ℕ). n < most) (s .long) l)
+same-taken es fs e s (fresh h l) = fresh (sym (s .holds (e .unit) (e .number)) ∙ h)
+    (subst (λ (n : ℕ). n < most) (s .long) l)
 
 same-run : (l es fs : List Entry) → Same es fs → AllTaken es l → AllTaken fs l × Same (after es l) (after fs l)
 unfolding AllTaken after
@@ -267,7 +275,8 @@ reordered (further r s) es a =
     (w .0, same-trans (v .1) (w .1))
 
 -- where no two entries of one key differ and the distinct ones fit, each is accepted
-module _ (e : Entry) (l p es : List Entry) (f : es ≡ distinct p) (agree : Agreeing (p ++ (e ∷ l))) (fit : Fitting (p ++ (e ∷ l))) where
+module _ (e : Entry) (l p es : List Entry) (f : es ≡ distinct p) (agree : Agreeing (p ++ (e ∷ l)))
+    (fit : Fitting (p ++ (e ∷ l))) where
   -- what is held of p is held of its first entries
   held-in : {h : Holding} → heldBy es e ≡ h → heldBy p e ≡ h
   held-in q = sym (distinct-holds p (e .unit) (e .number)) ∙ sym (ap (λ (x : List Entry). heldBy x e) f) ∙ q
@@ -304,6 +313,7 @@ all-taken (e ∷ l) p es f agree fit = by (heldBy es e) refl (all-taken l (p ++ 
     by Nothing q rest =
         let m = fitted e l p es f agree fit q in (
           fresh q m,
-          rest (entriesThen es e) (then-fresh es e q m ∙ new-first p e f q) (subst Agreeing (sym (one-more p l e)) agree)
+          rest (entriesThen es e) (then-fresh es e q m ∙ new-first p e f q)
+              (subst Agreeing (sym (one-more p l e)) agree)
               (subst Fitting (sym (one-more p l e)) fit),
         )

@@ -1,18 +1,16 @@
 -- Lists of entries: what is held in two lists one after the other, what they add up to, and which entries of a list are
 -- the first of their key.
 -- Assumes nothing.
-use mathlib.Core.Path.{_≡_, _∙_, sym, refl, ap, ap₂, subst}
+use mathlib.Core.Path.{_≡_, _∙_, sym, refl, ap, ap₂}
 use mathlib.Core.Bool.{Bool, true, false, cond}
-use mathlib.Core.List.{List, [], _∷_, _++_, append-nil, append-assoc, List·Memᴰ}
-use mathlib.Core.List.{List·Memᴰ·head, List·Memᴰ·tail}
-use Prim.Native.Nat.{ℕ, zero, suc, _+_, _<_, _≤_}
+use mathlib.Core.List.{List, [], _∷_, _++_, append-nil, List·Memᴰ, List·Memᴰ·head, List·Memᴰ·tail}
+use Prim.Native.Nat.{ℕ, zero, suc, _+_, _<_}
 use native.Mathlib.Omega.{arith}
-use native.Mathlib.Decide.{ℕ-discrete}
-use borrow.Author.Tests.{eq-eqb, ne-eqb, eqb-true}
+use borrow.Author.Tests.{eq-eqb, eqb-true}
 use lib.Dec.{eqb}
-use lib.ListN.{length, getD, length-append}
+use lib.ListN.{length, getD}
 use Rattle.laws.specs.Table.{both}
-use Rattle.tally.specs.Tally.{hasKey, holdingIn, share, totalIn}
+use Rattle.tally.specs.Tally.{hasKey, holdingIn, totalIn}
 use Rattle.tally.specs.History.{without, distinct}
 use Rattle.tally.specs.declared.Entry.{Entry}
 use Rattle.tally.specs.declared.Holding.{Holding}
@@ -120,7 +118,8 @@ held-among (e ∷ es) unit number c h =
     (λ f. List·Memᴰ·tail (held-among es unit number c (sym (rw f) ∙ h)))
 
 -- where it is not, none has it
-pub none-at : (d : Entry) (es : List Entry) (unit number : ℕ) → holdingIn es unit number ≡ Nothing → (i : ℕ) → i < length es
+pub none-at : (d : Entry) (es : List Entry) (unit number : ℕ) → holdingIn es unit number ≡ Nothing
+    → (i : ℕ) → i < length es
     → hasKey unit number (getD es i d) ≡ false
 unfolding holdingIn
 none-at d [] unit number h i l = absurd (omega arith)
@@ -130,7 +129,8 @@ none-at d (e ∷ es) unit number h i l =
     (λ f. first-or-later f i l (λ k m. none-at d es unit number (sym (rw f) ∙ h) k m))
   where
     first-or-later : hasKey unit number e ≡ false → (i : ℕ) → i < length (e ∷ es)
-        → ((k : ℕ) → k < length es → hasKey unit number (getD es k d) ≡ false) → hasKey unit number (getD (e ∷ es) i d) ≡ false
+        → ((k : ℕ) → k < length es → hasKey unit number (getD es k d) ≡ false)
+        → hasKey unit number (getD (e ∷ es) i d) ≡ false
     first-or-later f zero l later = f
     first-or-later f (suc i) l later = later i (omega arith)
 
@@ -182,7 +182,8 @@ beyond-none [] = refl
 beyond-none (x ∷ xs) = ap (λ (l : List Entry). x ∷ l) (beyond-none xs)
 
 -- leaving out the key of one entry more
-module _ (a : Entry) (p : List Entry) (x : Entry) (xs : List Entry) (rest : without a (beyond p xs) ≡ beyond (a ∷ p) xs) where
+module _ (a : Entry) (p : List Entry) (x : Entry) (xs : List Entry)
+    (rest : without a (beyond p xs) ≡ beyond (a ∷ p) xs) where
   same-key : hasKey (a .unit) (a .number) x ≡ true → (h : Holding) → holdingIn p (x .unit) (x .number) ≡ h
       → without a (beyond p (x ∷ xs)) ≡ beyond (a ∷ p) xs
   same-key t (Count c) q = ap (without a) (beyond-step p x xs q) ∙ rest
@@ -235,7 +236,8 @@ without-holds e (x ∷ xs) unit number h =
     ∙ ap (cond (hasKey unit number x) (Count (x .count))) (without-holds e xs unit number h)
     ∙ sym (holding-step x xs unit number refl))
 
-pub distinct-holds : (es : List Entry) (unit number : ℕ) → holdingIn (distinct es) unit number ≡ holdingIn es unit number
+pub distinct-holds : (es : List Entry) (unit number : ℕ)
+    → holdingIn (distinct es) unit number ≡ holdingIn es unit number
 unfolding distinct
 distinct-holds [] unit number = refl
 distinct-holds (e ∷ es) unit number =

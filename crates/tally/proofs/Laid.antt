@@ -1,16 +1,15 @@
 -- A book's words and its entries: the entries after a call are those that the definitions over entries say.
 -- Assumes nothing.
-use mathlib.Core.Path.{_≡_, _∙_, sym, refl, ap, ap₂, subst}
-use mathlib.Core.Bool.{Bool, true, false, cond}
+use mathlib.Core.Path.{_≡_, _∙_, sym, refl, ap}
 use mathlib.Core.List.{List, [], _∷_, _++_}
-use Prim.Native.Nat.{ℕ, zero, suc, _+_, _<_, _≤_}
+use Prim.Native.Nat.{ℕ, _+_, _<_}
 use native.Mathlib.Omega.{arith}
 use native.Mathlib.Decide.{ℕ-discrete}
 use lib.ListN.{length, getD, set, length-set, length-append, List·getD-append}
 use lib.Seq.{getD-set-same, getD-set-other, getD-append-seam}
 use Rattle.laws.specs.Tabulate.{tabulate}
 use Rattle.laws.proofs.Tabulate.{tabulate-is}
-use Rattle.tally.specs.Tally.{most, tallyOf, entriesBy, entriesThen, numberOf}
+use Rattle.tally.specs.Tally.{most, entriesBy, entriesThen}
 use Rattle.tally.specs.Book.{words, entriesIn, entryAt, entriesOf, laidIn, tallied, bookBy, bookThen}
 use Rattle.tally.specs.History.{IsBook}
 use Rattle.tally.specs.declared.Entry.{Entry}
@@ -43,7 +42,8 @@ module _ (b : List ℕ) (row : ℕ) (e : Entry) (book : IsBook b) (room : row < 
   -- the words past those that are laid after it are as it leaves them
   unit-on : (k : ℕ) → (k ≡ 0 → ⊥) → (k ≡ 8193 + row → ⊥) → getD (laidIn b row e) k 0 ≡ getD (withUnit b row e) k 0
   unit-on k z c =
-      getD-set-other (withCount b row e) 0 k (row + 1) 0 z ∙ getD-set-other (withUnit b row e) (8193 + row) k (e .count) 0 c
+      getD-set-other (withCount b row e) 0 k (row + 1) 0 z
+      ∙ getD-set-other (withUnit b row e) (8193 + row) k (e .count) 0 c
 
   number-on : (k : ℕ) → (k ≡ 0 → ⊥) → (k ≡ 4097 + row → ⊥) → (k ≡ 8193 + row → ⊥)
       → getD (laidIn b row e) k 0 ≡ getD (withNumber b row e) k 0

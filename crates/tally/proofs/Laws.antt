@@ -3,30 +3,29 @@
 use mathlib.Core.Path.{_≡_, _∙_, sym, refl, ap, ap₂, subst}
 use mathlib.Core.Bool.{Bool, true, false, cond}
 use mathlib.Core.List.{List, [], _∷_, _++_, append-nil}
-use mathlib.Core.Logic.{_↔_}
 use Prim.Native.Nat.{ℕ, zero, suc, _+_, _*_, _<_, _≤_}
 use native.Mathlib.Omega.{arith}
-use borrow.Author.Tests.{eq-eqb}
 use lib.Dec.{eqb}
-use lib.ListN.{length, getD}
+use lib.ListN.{length, getD, set, length-set}
+use lib.Seq.{getD-set-same}
 use Rattle.laws.specs.Tabulate.{tabulateFrom, tabulate}
 use Rattle.blocks.specs.Walk.{walkedOf}
+use Rattle.blocks.specs.Frames.{ifSound}
 use Rattle.blocks.specs.Refusals as blocks
 use Rattle.blocks.specs.declared.Cause.{Cause}
 use Rattle.blocks.specs.declared.Cause.the-variants as Cause
 use Rattle.blocks.specs.declared.Ending.{Ending}
 use Rattle.blocks.specs.declared.Ending.the-variants as Ending
-use Rattle.tally.specs.Tally.{most, hasKey, holdingIn, share, totalIn, tallyOf, entriesThen, numberOf}
-use Rattle.tally.specs.Book.{words, entriesIn, entryAt, entriesOf, tallied, bookBy, bookThen}
-use Rattle.tally.specs.Entering.{recordingEntry, enteringBy, enteringOf, bookAfterBy, bookAfterRecording, refusalOf}
-use Rattle.tally.specs.Entering.{tellsOf}
-use Rattle.tally.specs.History.{Call, enter, recording, answerOf, bookAfter, bookAfterAll, ifSound, entryIn, entriesFor}
-use Rattle.tally.specs.History.{ifAccepted, acceptedIn, distinct, IsBook, EmptyBook, Among, Agreeing, Fitting}
-use Rattle.tally.specs.History.{Reordered, none, next, swapped, further}
-use Rattle.tally.specs.Promised.{heldFor, TallyRefuses, RecordingFirst, TallyStands, TotalFits, NoKeyTwice, TotalOfFirsts}
-use Rattle.tally.specs.Promised.{HeldIfAccepted, SameAnswers, EitherOrder, AnyOrder, again, SameAgain}
+use Rattle.tally.specs.Tally.{most, hasKey, holdingIn, totalIn, tallyOf, entriesThen, numberOf}
+use Rattle.tally.specs.Book.{entriesIn, entryAt, entriesOf, emptied, tallied, bookBy, bookThen}
+use Rattle.tally.specs.Entering.{recordingEntry, enteringBy, enteringOf, bookAfterRecording, refusalOf, tellsOf}
+use Rattle.tally.specs.History.{Call, enter, recording, answerOf, bookAfter, bookAfterAll, entryIn, entriesFor}
+use Rattle.tally.specs.History.{ifAccepted, acceptedIn, distinct, IsBook, EmptyBook, Among, Reordered, none, next}
+use Rattle.tally.specs.History.{swapped, further}
+use Rattle.tally.specs.Promised.{heldFor, TallyRefuses, RecordingFirst, TallyStands, TotalFits, ClearedEmpty}
+use Rattle.tally.specs.Promised.{NoKeyTwice, TotalOfFirsts, HeldIfAccepted, SameAnswers, EitherOrder, AnyOrder}
+use Rattle.tally.specs.Promised.{again, SameAgain}
 use Rattle.tally.specs.declared.Entry.{Entry}
-use Rattle.tally.specs.declared.Holding.{Holding}
 use Rattle.tally.specs.declared.Holding.the-variants.{Count, Nothing}
 use Rattle.tally.specs.declared.Tallied.{Tallied}
 use Rattle.tally.specs.declared.Tallied.the-variants.{Entered, AlreadyHeld, OtherCount, Full}
@@ -36,9 +35,9 @@ use Rattle.tally.proofs.Rows.{entries-fit, entries-told, entries-length
 use Rattle.tally.proofs.Keys.{held-among, distinct-holds}
 use Rattle.tally.proofs.Ways.{Way, held, other, full, new, answered, ways, fresh, taken, taken-answers, Same}
 use Rattle.tally.proofs.Laid.{then-long, then-entries}
-use Rattle.tally.proofs.Ways.{Exchanged, exchanged}
-use Rattle.tally.proofs.Histories.{after, accepts, after-append, accepts-append, firsts, taken-held, accepted-held}
-use Rattle.tally.proofs.Histories.{NoTwice, after-twice, AllTaken, all-accepts, AsWell, reordered, all-taken}
+use Rattle.tally.proofs.Ways.{exchanged}
+use Rattle.tally.proofs.Histories.{after, accepts, after-append, accepts-append, firsts, taken-held}
+use Rattle.tally.proofs.Histories.{accepted-held, NoTwice, after-twice, all-accepts, reordered, all-taken}
 
 -- ---- one call
 
@@ -78,8 +77,14 @@ tally-refuses b e =
     let w = ways (entriesOf b) e in
     let n = entries-length b in (
       (from-held b e (tallied b e) w, λ h. answered (entriesOf b) e AlreadyHeld (held h)),
-      (from-other b e (tallied b e) w, λ h. ap numberOf (answered (entriesOf b) e OtherCount (other (h .0) (h .1) (h .2)))),
-      (from-full b e (tallied b e) w, λ h. ap numberOf (answered (entriesOf b) e Full (full (h .0) (omega (arith, n, h .1))))),
+      (
+        from-other b e (tallied b e) w,
+        λ h. ap numberOf (answered (entriesOf b) e OtherCount (other (h .0) (h .1) (h .2))),
+      ),
+      (
+        from-full b e (tallied b e) w,
+        λ h. ap numberOf (answered (entriesOf b) e Full (full (h .0) (omega (arith, n, h .1)))),
+      ),
       (from-entered b e (tallied b e) w, λ h. answered (entriesOf b) e Entered (new (h .0) (omega (arith, n, h .1)))),
     )
 
@@ -139,7 +144,8 @@ unfolding TallyStands enteringOf bookAfterRecording
 tally-stands b (enter e) = (refused-leaves b e, held-leaves b e)
 tally-stands b (recording s count) = by (walkedOf s .ending)
   where
-    by : (ending : Ending) → Leaves b (enteringBy ending b (recordingEntry s count)) (bookAfterBy ending b (recordingEntry s count))
+    by : (ending : Ending) → Leaves b (enteringBy ending b (recordingEntry s count))
+        (ifSound ending (bookThen b (recordingEntry s count)) b)
     by Ending.Sound = (refused-leaves b (recordingEntry s count), held-leaves b (recordingEntry s count))
     by (Ending.Refused cause) = (λ h. refl, λ h. refl)
 
@@ -175,7 +181,7 @@ alone-accepts : (es : List Entry) (e : Entry) → ifAccepted (Entering.Done (tal
 unfolding accepts
 alone-accepts es e = sym (append-nil _)
 
--- a call: it stays a book, its entries are those after what the call would enter, and what is accepted is accepted of that
+-- a call: it stays a book, its entries are those after what the call would enter, and of that it is accepted what is
 pub record Stepped (b : List ℕ) (later : List ℕ) (answer : Entering) (es : List Entry) : Type 0 where
   pub book : IsBook later
   pub entries : entriesOf later ≡ after (entriesOf b) es
@@ -204,8 +210,9 @@ call-step b (enter e) book = entered-step b e book
 call-step b (recording s count) book = by (walkedOf s .ending)
   where
     by : (ending : Ending)
-        → Stepped b (bookAfterBy ending b (recordingEntry s count)) (enteringBy ending b (recordingEntry s count))
-        (ifSound ending (recordingEntry s count))
+        → Stepped b (ifSound ending (bookThen b (recordingEntry s count)) b)
+        (enteringBy ending b (recordingEntry s count))
+        (ifSound ending (recordingEntry s count ∷ []) [])
     by Ending.Sound = entered-step b (recordingEntry s count) book
     by (Ending.Refused cause) = refused-step b cause book
 
@@ -238,6 +245,14 @@ unfolding entriesOf tabulateFrom
 none-told b e =
     let h : entriesIn b ≡ 0 = sym (entries-told b (omega (arith, e .none))) ∙ e .none in
     ap (tabulate (entryAt b)) h
+
+pub cleared-empty : ClearedEmpty
+unfolding ClearedEmpty emptied
+cleared-empty b book =
+    let e : EmptyBook (set b 0 0) =
+    record { book = simp length-set book; none = getD-set-same b 0 0 0 (omega arith) }
+    in
+    (e, none-told (set b 0 0) e)
 
 module _ (b : List ℕ) (h : List Call) (e : EmptyBook b) where
   ran : Run b h
@@ -338,7 +353,7 @@ few : (c : Call) → Few (entryIn c)
 few (enter e) = one e
 few (recording s count) = by (walkedOf s .ending)
   where
-    by : (ending : Ending) → Few (ifSound ending (recordingEntry s count))
+    by : (ending : Ending) → Few (ifSound ending (recordingEntry s count ∷ []) [])
     by Ending.Sound = one (recordingEntry s count)
     by (Ending.Refused cause) = no-entry
 
@@ -430,9 +445,10 @@ same-again b (enter e) book = entry-again b e book
 same-again b (recording s count) book = by (walkedOf s .ending)
   where
     by : (ending : Ending)
-        → (enteringBy ending (bookAfterBy ending b (recordingEntry s count)) (recordingEntry s count)
+        → (enteringBy ending (ifSound ending (bookThen b (recordingEntry s count)) b) (recordingEntry s count)
         ≡ again (enteringBy ending b (recordingEntry s count)))
-        × (bookAfterBy ending (bookAfterBy ending b (recordingEntry s count)) (recordingEntry s count)
-        ≡ bookAfterBy ending b (recordingEntry s count))
+        × (ifSound ending (bookThen (ifSound ending (bookThen b (recordingEntry s count)) b) (recordingEntry s count))
+        (ifSound ending (bookThen b (recordingEntry s count)) b)
+        ≡ ifSound ending (bookThen b (recordingEntry s count)) b)
     by Ending.Sound = entry-again b (recordingEntry s count) book
     by (Ending.Refused cause) = (refl, refl)

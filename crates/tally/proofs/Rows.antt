@@ -1,9 +1,9 @@
 -- A loop over the rows of a book: what the entries from a row on come to.
 -- Assumes nothing.
-use mathlib.Core.Path.{_≡_, _∙_, sym, refl, ap, ap₂, subst}
+use mathlib.Core.Path.{_≡_, _∙_, sym, refl, ap, ap₂}
 use mathlib.Core.Bool.{Bool, true, false, cond}
 use mathlib.Core.List.{List, [], _∷_}
-use Prim.Native.Nat.{ℕ, zero, suc, _+_, _-_, _*_, _<_, _≤_}
+use Prim.Native.Nat.{ℕ, suc, _+_, _-_, _*_, _<_, _≤_}
 use native.Mathlib.Omega.{arith}
 use native.Mathlib.Numerals.{add-one}
 use native.Mathlib.Decide.{decLe}
@@ -19,7 +19,7 @@ use Rattle.blocks.specs.declared.Ending.the-variants as Ending
 use Rattle.blocks.specs.declared.Walked.{Walked}
 use Rattle.tally.specs.Tally.{hasKey, holdingIn, share, totalIn, tallyNew, tallyBy, tallyOf}
 use Rattle.tally.specs.Book.{entriesIn, entryAt, entriesOf, laidIn, tallied, bookBy, bookThen}
-use Rattle.tally.specs.Book.{placeOf, tallyOrFull, appended}
+use Rattle.tally.specs.Steps.{placeOf, tallyOrFull, appended}
 use Rattle.tally.specs.Entering.{entryOf, recordingEntry, enteringOf, bookAfterRecording}
 use Rattle.tally.specs.declared.Entry.{Entry}
 use Rattle.tally.specs.declared.Entering.the-variants.{Done, Refused}
@@ -139,12 +139,14 @@ place-held d (e ∷ es) unit number h = by (hasKey unit number e) refl (place-he
         let g : placeOf (e ∷ es) unit number ≡ suc (placeOf es unit number) = rw q in
         rw q (rest (omega (arith, g)))
 
-place-none : (es : List Entry) (unit number : ℕ) → length es ≤ placeOf es unit number → holdingIn es unit number ≡ Nothing
+place-none : (es : List Entry) (unit number : ℕ) → length es ≤ placeOf es unit number
+    → holdingIn es unit number ≡ Nothing
 unfolding placeOf holdingIn
 place-none [] unit number h = refl
 place-none (e ∷ es) unit number h = by (hasKey unit number e) refl (place-none es unit number)
   where
-    by : (t : Bool) → hasKey unit number e ≡ t → (length es ≤ placeOf es unit number → holdingIn es unit number ≡ Nothing)
+    by : (t : Bool) → hasKey unit number e ≡ t
+        → (length es ≤ placeOf es unit number → holdingIn es unit number ≡ Nothing)
         → holdingIn (e ∷ es) unit number ≡ Nothing
     by true q rest =
         let g : placeOf (e ∷ es) unit number ≡ 0 = rw q in
@@ -170,7 +172,8 @@ pub row-holds : (b : List ℕ) (k : ℕ) (d : Entry) → k < entriesIn b → get
 unfolding entriesOf
 row-holds b k d h = getD-tabulate (entryAt b) d (entriesIn b) k h
 
-module _ (b : List ℕ) (unit number : ℕ) {row end : ℕ} (found : row ≡ placeOf (entriesOf b) unit number) (told : end ≡ entriesIn b) where
+module _ (b : List ℕ) (unit number : ℕ) {row end : ℕ} (found : row ≡ placeOf (entriesOf b) unit number)
+    (told : end ≡ entriesIn b) where
   pub row-held : row < end → Count (getD b (8193 + row) 0) ≡ holdingIn (entriesOf b) unit number
   row-held h =
       let n = entries-length b in
@@ -205,7 +208,8 @@ summing b end unit e =
 
 module _ {b : List ℕ} {end unit sum i : ℕ} (a : Summing b end unit sum i) where
   -- what the row here adds
-  adds : i < end → (x : ℕ) → share unit (entryAt b i) ≡ x → sum + x + totalIn (rest b end (i + 1)) unit ≡ totalIn (entriesOf b) unit
+  adds : i < end → (x : ℕ) → share unit (entryAt b i) ≡ x
+      → sum + x + totalIn (rest b end (i + 1)) unit ≡ totalIn (entriesOf b) unit
   unfolding totalIn
   adds h x e =
       let f = ap (λ (es : List Entry). totalIn es unit) (rest-next b end i h) in
@@ -224,7 +228,8 @@ module _ {b : List ℕ} {end unit sum i : ℕ} (a : Summing b end unit sum i) wh
       }
 
   -- nothing, where it is another's
-  pub summed-other : i < end → (getD b (4097 + i) 0 ≡ unit → ⊥) → {more : ℕ} → more ≡ sum → Summing b end unit more (i + 1)
+  pub summed-other : i < end → (getD b (4097 + i) 0 ≡ unit → ⊥) → {more : ℕ} → more ≡ sum
+      → Summing b end unit more (i + 1)
   summed-other h u {more} m =
       record {
         short = a .short;
@@ -293,8 +298,9 @@ module _ (b s : List ℕ) (count : ℕ) {w : Walked} (walked : w ≡ walkedOf s)
       let g : walkedOf s .ending ≡ Ending.Refused cause = sym (ap (λ (x : Walked). x .ending) walked) ∙ f in
       (rw g, rw g)
 
-  pub recording-sound : w .ending ≡ Ending.Sound → {e : Entry} {t : Tallied} {after : List ℕ} → e ≡ entryOf (w .walk .heading) count
-      → t ≡ tallied b e → after ≡ bookThen b e → (Done t ≡ enteringOf b s count) × (after ≡ bookAfterRecording b s count)
+  pub recording-sound : w .ending ≡ Ending.Sound → {e : Entry} {t : Tallied} {after : List ℕ}
+      → e ≡ entryOf (w .walk .heading) count → t ≡ tallied b e → after ≡ bookThen b e
+      → (Done t ≡ enteringOf b s count) × (after ≡ bookAfterRecording b s count)
   unfolding enteringOf bookAfterRecording recordingEntry
   recording-sound f {e} {t} {after} h p q =
       let g : walkedOf s .ending ≡ Ending.Sound = sym (ap (λ (x : Walked). x .ending) walked) ∙ f in

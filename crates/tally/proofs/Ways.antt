@@ -3,22 +3,22 @@
 -- Assumes nothing.
 use mathlib.Core.Path.{_≡_, _∙_, sym, refl, ap, ap₂, subst}
 use mathlib.Core.Bool.{Bool, true, false, cond}
-use mathlib.Core.List.{List, [], _∷_, _++_, append-assoc}
-use Prim.Native.Nat.{ℕ, zero, suc, _+_, _<_, _≤_}
+use mathlib.Core.List.{List, [], _∷_, _++_}
+use Prim.Native.Nat.{ℕ, _+_, _<_, _≤_}
 use native.Mathlib.Omega.{arith}
 use native.Mathlib.Decide.{decLe, ℕ-discrete}
 use borrow.Author.Tests.{eq-eqb, ne-eqb, lt-ltb, le-ltb}
 use lib.Dec.{eqb, ltb}
 use lib.ListN.{length, length-append}
-use Rattle.tally.specs.Tally.{most, hasKey, holdingIn, totalIn, tallyNew, tallyBy, tallyOf, entriesBy, entriesThen}
+use Rattle.tally.specs.Tally.{most, hasKey, holdingIn, totalIn, tallyBy, tallyOf, entriesBy, entriesThen}
 use Rattle.tally.specs.Tally.{numberOf}
 use Rattle.tally.specs.declared.Entry.{Entry}
 use Rattle.tally.specs.declared.Holding.{Holding}
 use Rattle.tally.specs.declared.Holding.the-variants.{Count, Nothing}
 use Rattle.tally.specs.declared.Tallied.{Tallied}
 use Rattle.tally.specs.declared.Tallied.the-variants.{Entered, AlreadyHeld, OtherCount, Full}
-use Rattle.tally.proofs.Keys.{either, own-key, key-of, key-turned, orElse, holding-append, holding-other, holding-new}
-use Rattle.tally.proofs.Keys.{holding-stays, alone, total-append}
+use Rattle.tally.proofs.Keys.{either, key-of, key-turned, orElse, holding-append, holding-other, alone}
+use Rattle.tally.proofs.Keys.{total-append}
 
 -- what is held under an entry's key
 abbrev pub heldBy : List Entry → Entry → Holding
@@ -99,7 +99,8 @@ taken-answers es e (fresh h l) = ap numberOf (answered es e Entered (new h l))
 pub then-again : (es : List Entry) (e : Entry) → heldBy es e ≡ Count (e .count) → entriesThen es e ≡ es
 then-again es e h = entries-are es e (answered es e AlreadyHeld (held h))
 
-pub then-fresh : (es : List Entry) (e : Entry) → heldBy es e ≡ Nothing → length es < most → entriesThen es e ≡ es ++ (e ∷ [])
+pub then-fresh : (es : List Entry) (e : Entry) → heldBy es e ≡ Nothing → length es < most
+    → entriesThen es e ≡ es ++ (e ∷ [])
 then-fresh es e h l = entries-are es e (answered es e Entered (new h l))
 
 -- ---- lists that answer alike
@@ -190,7 +191,8 @@ swapped-behind es x y d =
           let f = total-append es (y ∷ []) u in
           omega (arith, a, b, c, f);
       holds = λ u n.
-          two u n x y ∙ ap (orElse (holdingIn es u n)) (either (hasKey u n x) (first u n) (second u n)) ∙ sym (two u n y x);
+          two u n x y ∙ ap (orElse (holdingIn es u n)) (either (hasKey u n x) (first u n) (second u n))
+          ∙ sym (two u n y x);
       long =
           let a = length-append (es ++ (x ∷ [])) (y ∷ []) in
           let b = length-append es (x ∷ []) in
@@ -211,18 +213,23 @@ swapped-behind es x y d =
         ∙ assoc (holdingIn es u n) (holdingIn (v ∷ []) u n) (holdingIn (w ∷ []) u n)
 
     first : (u n : ℕ) → hasKey u n x ≡ true
-        → orElse (holdingIn (x ∷ []) u n) (holdingIn (y ∷ []) u n) ≡ orElse (holdingIn (y ∷ []) u n) (holdingIn (x ∷ []) u n)
+        → orElse (holdingIn (x ∷ []) u n) (holdingIn (y ∷ []) u n)
+        ≡ orElse (holdingIn (y ∷ []) u n) (holdingIn (x ∷ []) u n)
     first u n t =
         let k = key-of u n x t in
         let f : hasKey u n y ≡ false = ap₂ (λ (a b : ℕ). hasKey a b y) (sym (k .0)) (sym (k .1)) ∙ d in
-        ap₂ orElse (alone x u n true t) (alone y u n false f) ∙ sym (ap₂ orElse (alone y u n false f) (alone x u n true t))
+        ap₂ orElse (alone x u n true t) (alone y u n false f)
+        ∙ sym (ap₂ orElse (alone y u n false f) (alone x u n true t))
 
     second : (u n : ℕ) → hasKey u n x ≡ false
-        → orElse (holdingIn (x ∷ []) u n) (holdingIn (y ∷ []) u n) ≡ orElse (holdingIn (y ∷ []) u n) (holdingIn (x ∷ []) u n)
+        → orElse (holdingIn (x ∷ []) u n) (holdingIn (y ∷ []) u n)
+        ≡ orElse (holdingIn (y ∷ []) u n) (holdingIn (x ∷ []) u n)
     second u n f =
         either (hasKey u n y)
-        (λ t. ap₂ orElse (alone x u n false f) (alone y u n true t) ∙ sym (ap₂ orElse (alone y u n true t) (alone x u n false f)))
-        (λ g. ap₂ orElse (alone x u n false f) (alone y u n false g) ∙ sym (ap₂ orElse (alone y u n false g) (alone x u n false f)))
+        (λ t. ap₂ orElse (alone x u n false f) (alone y u n true t)
+        ∙ sym (ap₂ orElse (alone y u n true t) (alone x u n false f)))
+        (λ g. ap₂ orElse (alone x u n false f) (alone y u n false g)
+        ∙ sym (ap₂ orElse (alone y u n false g) (alone x u n false f)))
 
 -- what two accepted entries of different keys come to in the other order
 pub record Exchanged (es : List Entry) (x y : Entry) : Type 0 where

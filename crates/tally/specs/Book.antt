@@ -1,12 +1,12 @@
--- A book as the caller lends it: 12,289 words. The first tells how many entries it holds, 4,096 where it tells more; then
--- come three columns of 4,096 words, the numbers, the units and the counts. So any words are a book.
+-- A book as the caller lends it: 12,289 words. The first tells how many entries it holds, 4,096 where it tells more;
+-- then come three columns of 4,096 words, the numbers, the units and the counts. So any words are a book.
 use mathlib.Core.Bool.{cond}
-use mathlib.Core.List.{List, [], _∷_}
-use Prim.Native.Nat.{ℕ, suc, _+_}
+use mathlib.Core.List.{List}
+use Prim.Native.Nat.{ℕ, _+_}
 use lib.Dec.{leb}
 use lib.ListN.{getD, set}
 use Rattle.laws.specs.Tabulate.{tabulate}
-use Rattle.tally.specs.Tally.{most, hasKey, tallyNew, tallyOf}
+use Rattle.tally.specs.Tally.{most, tallyOf}
 use Rattle.tally.specs.declared.Entry.{Entry}
 use Rattle.tally.specs.declared.Tallied.{Tallied}
 use Rattle.tally.specs.declared.Tallied.the-variants.{Entered, AlreadyHeld, OtherCount, Full}
@@ -46,15 +46,3 @@ bookBy Full b e = b
 
 unfoldable pub bookThen : List ℕ → Entry → List ℕ
 bookThen b e = bookBy (tallied b e) b e
-
--- steps: the place of the first entry with a key, counted from 0, or of the one after all; and what is answered and left
--- where the key is new
-unfoldable pub placeOf : List Entry → ℕ → ℕ → ℕ
-placeOf [] unit number = 0
-placeOf (e ∷ es) unit number = cond (hasKey unit number e) 0 (suc (placeOf es unit number))
-
-abbrev pub tallyOrFull : List ℕ → Tallied
-tallyOrFull b = tallyNew (entriesIn b)
-
-abbrev pub appended : List ℕ → Entry → List ℕ
-appended b e = bookBy (tallyOrFull b) b e

@@ -2,6 +2,7 @@
 use mathlib.Core.List.{List, []}
 use Prim.Native.Nat.{ℕ}
 use Rattle.blocks.specs.Walk.{walkedOf}
+use Rattle.blocks.specs.Frames.{ifSound}
 use Rattle.blocks.specs.Refusals as blocks
 use Rattle.blocks.specs.declared.Ending.{Ending}
 use Rattle.blocks.specs.declared.Ending.the-variants as Ending
@@ -20,10 +21,6 @@ abbrev pub enteringBy : Ending → List ℕ → Entry → Entering
 enteringBy Ending.Sound b e = Done (tallied b e)
 enteringBy (Ending.Refused cause) b e = Refused cause
 
-abbrev pub bookAfterBy : Ending → List ℕ → Entry → List ℕ
-bookAfterBy Ending.Sound b e = bookThen b e
-bookAfterBy (Ending.Refused cause) b e = b
-
 -- the entry of a recording, if it is sound
 unfoldable pub recordingEntry : List ℕ → ℕ → Entry
 recordingEntry s count = entryOf (walkedOf s .walk .heading) count
@@ -32,7 +29,7 @@ unfoldable pub enteringOf : List ℕ → List ℕ → ℕ → Entering
 enteringOf b s count = enteringBy (walkedOf s .ending) b (recordingEntry s count)
 
 unfoldable pub bookAfterRecording : List ℕ → List ℕ → ℕ → List ℕ
-bookAfterRecording b s count = bookAfterBy (walkedOf s .ending) b (recordingEntry s count)
+bookAfterRecording b s count = ifSound (walkedOf s .ending) (bookThen b (recordingEntry s count)) b
 
 -- the number of the refusal, and what it tells; 0 is no refusal
 abbrev pub refusalOf : Entering → ℕ

@@ -7,8 +7,7 @@ use Prim.Native.Nat.{ℕ, _≤_}
 use lib.Dec.{eqb}
 use lib.ListN.{length, getD}
 use Rattle.blocks.specs.Walk.{walkedOf}
-use Rattle.blocks.specs.declared.Ending.{Ending}
-use Rattle.blocks.specs.declared.Ending.the-variants as Ending
+use Rattle.blocks.specs.Frames.{ifSound}
 use Rattle.tally.specs.Tally.{most, hasKey}
 use Rattle.tally.specs.Book.{words, tallied, bookThen}
 use Rattle.tally.specs.Entering.{recordingEntry, enteringOf, bookAfterRecording, refusalOf}
@@ -36,13 +35,9 @@ bookAfterAll b [] = b
 bookAfterAll b (c ∷ h) = bookAfterAll (bookAfter b c) h
 
 -- what a call would enter: a recording that is refused, nothing
-abbrev pub ifSound : Ending → Entry → List Entry
-ifSound Ending.Sound e = e ∷ []
-ifSound (Ending.Refused cause) e = []
-
 abbrev pub entryIn : Call → List Entry
 entryIn (enter e) = e ∷ []
-entryIn (recording s count) = ifSound (walkedOf s .ending) (recordingEntry s count)
+entryIn (recording s count) = ifSound (walkedOf s .ending) (recordingEntry s count ∷ []) []
 
 unfoldable pub entriesFor : List Call → List Entry
 entriesFor [] = []

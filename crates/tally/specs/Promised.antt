@@ -1,6 +1,6 @@
 -- What holds of every book and of every history of calls (document 02, K3).
 use mathlib.Core.Path.{_≡_}
-use mathlib.Core.Bool.{true, false}
+use mathlib.Core.Bool.{false}
 use mathlib.Core.List.{List, []}
 use mathlib.Core.Logic.{_↔_}
 use Prim.Native.Nat.{ℕ, _*_, _<_, _≤_}
@@ -8,8 +8,8 @@ use lib.ListN.{length, getD}
 use Rattle.blocks.specs.Walk.{walkedOf}
 use Rattle.blocks.specs.Refusals.{walkedRefusal, walkedTells}
 use Rattle.tally.specs.Tally.{most, hasKey, holdingIn, totalIn, numberOf}
-use Rattle.tally.specs.Book.{words, entriesIn, entryAt, entriesOf, tallied, bookThen}
-use Rattle.tally.specs.Entering.{enteringOf, bookAfterRecording, recordingEntry, refusalOf, tellsOf}
+use Rattle.tally.specs.Book.{entriesIn, entryAt, entriesOf, emptied, tallied, bookThen}
+use Rattle.tally.specs.Entering.{enteringOf, recordingEntry, refusalOf, tellsOf}
 use Rattle.tally.specs.History.{Call, answerOf, bookAfter, bookAfterAll, entriesFor, acceptedIn, distinct, IsBook}
 use Rattle.tally.specs.History.{EmptyBook, Among, Agreeing, Fitting, Reordered}
 use Rattle.tally.specs.declared.Entry.{Entry}
@@ -58,6 +58,10 @@ unfoldable pub TotalFits : Type 0
 TotalFits =
     (b : List ℕ) (unit : ℕ) → ((i : ℕ) → getD b i 0 < 4294967296)
     → (entriesIn b ≤ most) × (totalIn (entriesOf b) unit ≤ 4096 * 4294967295)
+
+-- a book that is cleared is empty
+unfoldable pub ClearedEmpty : Type 0
+ClearedEmpty = (b : List ℕ) → IsBook b → EmptyBook (emptied b) × (entriesOf (emptied b) ≡ [])
 
 -- from an empty book on, whatever is called: it stays a book, and no key is held twice
 unfoldable pub NoKeyTwice : Type 0

@@ -1,8 +1,8 @@
 -- The tally book over its entries (document 02, K3): "it takes unit, recording number and spoken count, 32 bits each,
 -- holds up to 4,096 entries, and counts each unit and number once. The same entry again answers 'already held'. [..]
--- Refusals: 13 when the key is held with another count, then 14 when the book is full and the key is new; both leave the
--- book as it was."
-use mathlib.Core.Bool.{Bool, true, false, cond}
+-- Refusals: 13 when the key is held with another count, then 14 when the book is full and the key is new; both leave
+-- the book as it was."
+use mathlib.Core.Bool.{Bool, cond}
 use mathlib.Core.List.{List, [], _∷_, _++_}
 use Prim.Native.Nat.{ℕ, _+_}
 use lib.Dec.{eqb, ltb}
@@ -62,7 +62,3 @@ numberOf Entered = 0
 numberOf AlreadyHeld = 0
 numberOf OtherCount = 13
 numberOf Full = 14
-
--- a call is accepted where it is not refused
-abbrev pub accepted : Tallied → Bool
-accepted t = eqb (numberOf t) 0

@@ -1,13 +1,14 @@
 // The tally book, for the pace sheet: which recordings were counted, each once, and with which spoken count.
-// A book is 12,289 words that the caller lends: how many entries it holds, then three columns of 4,096, the numbers, the units and the
-// counts. Any words are a book, and a book whose first word is 0 is empty.
+// A book is 12,289 words that the caller lends: how many entries it holds, then three columns of 4,096, the numbers, the
+// units and the counts. Any words are a book, and a book whose first word is 0 is empty.
 use blocks::Cause;
 use blocks::Ending;
 use blocks::Heading;
 ghost use mathlib.Core.Path.{_≡_};
 ghost use Prim.Native.Nat.{_≤_};
 ghost use Rattle.tally.specs.Tally.{numberOf, holdingIn, totalIn};
-ghost use Rattle.tally.specs.Book.{entriesIn, entriesOf, emptied, tallied, bookThen, placeOf, tallyOrFull, appended};
+ghost use Rattle.tally.specs.Book.{entriesIn, entriesOf, emptied, tallied, bookThen};
+ghost use Rattle.tally.specs.Steps.{placeOf, tallyOrFull, appended};
 ghost use Rattle.tally.specs.Entering.{entryOf, enteringOf, bookAfterRecording};
 
 // How many words a book has.
@@ -26,8 +27,8 @@ pub enum Holding {
     Nothing,
 }
 
-// What entering comes to: entered, or already held with the same count; or refused, since the key is held with another count, or
-// since the book is full and the key is new.
+// What entering comes to: entered, or already held with the same count; or refused, since the key is held with another
+// count, or since the book is full and the key is new.
 pub enum Tallied {
     Entered,
     AlreadyHeld,
@@ -86,8 +87,8 @@ pub fn ask(book: &[u32; WORDS], unit: u32, number: u32) -> Holding
     Holding::Nothing
 }
 
-// The first row with a key; the row after all entries where none has it. Numbers differ more often than units, so they are compared
-// first.
+// The first row with a key; the row after all entries where none has it. Numbers differ more often than units, so they
+// are compared first.
 fn row_of(book: &[u32; WORDS], unit: u32, number: u32) -> usize
     ensures { λ r. ⌜ r ≡ placeOf (entriesOf (now (book .entry))) unit number ⌝ }
 {
@@ -170,7 +171,8 @@ fn append(book: &mut [u32; WORDS], row: usize, entry: Entry) -> Tallied
     Tallied::Full
 }
 
-// Enters a recording with the count that was spoken in it: its own refusal first, and then as its unit and number are entered.
+// Enters a recording with the count that was spoken in it: its own refusal first, and then as its unit and number are
+// entered.
 pub fn enter_recording(book: &mut [u32; WORDS], s: &[u8], count: u32) -> Entering
     ensures { λ r. ⌜ r ≡ enteringOf (now (book .entry)) (now (s .entry)) count ⌝ }
     ensures { λ _. ⌜ now (book .exit) ≡ bookAfterRecording (now (book .entry)) (now (s .entry)) count ⌝ }

@@ -2,7 +2,6 @@
 -- Assumes nothing.
 use Prim.Native.Nat.{_-_, _≤_}
 use native.Mathlib.Omega.{arith}
-use borrow.Author.Needs.{needs}
 use Rattle.sheet.proofs.repeat.Statement.{statement}
 use Rattle.sheet.proofs.repeat.Tie as tie
 

@@ -1,6 +1,5 @@
 -- `tally::enter_recording` meets its contract: by how the walk ends.
 -- Assumes nothing.
-use mathlib.Core.Path.{_≡_, _∙_, sym, ap}
 use borrow.Author.Needs.{needs}
 use Rattle.tally.proofs.Rows.{recording-refused, recording-sound}
 use Rattle.tally.proofs.enter_recording.Statement.{statement}
@@ -24,7 +23,8 @@ returns-2 : tie.Need-returns-2
 returns-2 c =
     let f = c .before .before in
     let g = f .before .before .before in
-    recording-sound _ _ _ (g .walk-through .ensures) (f .before .enum-told .given .1) (f .entry-of .ensures) (c .enter .ensures .0)
+    recording-sound _ _ _ (g .walk-through .ensures) (f .before .enum-told .given .1) (f .entry-of .ensures)
+    (c .enter .ensures .0)
     (c .enter .ensures .1)
 
 pub enter-recording-spec : {M : Type 1} → statement M

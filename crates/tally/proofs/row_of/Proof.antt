@@ -1,5 +1,5 @@
--- `tally::row_of` meets its contract. The loop's invariant: the place of the key among the rows from `row` on is its place
--- in the book. Each turn is one of `Seeking`.
+-- `tally::row_of` meets its contract. The loop's invariant: the place of the key among the rows from `row` on is its
+-- place in the book. Each turn is one of `Seeking`.
 -- Assumes nothing.
 use mathlib.Core.Logic.{⊎-elim}
 use Prim.Native.Nat.{_-_}
@@ -29,7 +29,8 @@ returns c =
 loop-again : tie.Need-loop-again Inv-loop μ-loop
 loop-again c =
     let a = c .before .before .before .loop .inv in
-    ⊎-elim (λ w. sought-unit a (omega arith) (omega arith) (λ q. omega arith)) (λ w. sought-number a (omega arith) (λ q. omega arith)) (c .if1 .came)
+    ⊎-elim (λ w. sought-unit a (omega arith) (omega arith) (λ q. omega arith))
+    (λ w. sought-number a (omega arith) (λ q. omega arith)) (c .if1 .came)
 
 returns-2 : tie.Need-returns-2 Inv-loop μ-loop
 returns-2 c = sought-none (c .before .loop .inv) (omega arith)
