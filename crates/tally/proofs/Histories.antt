@@ -12,6 +12,7 @@ use borrow.Author.Tests.{eq-eqb, ne-eqb}
 use lib.Dec.{eqb}
 use lib.ListN.{length, getD, length-append, List·getD-append}
 use lib.Seq.{getD-append-seam}
+use Rattle.laws.proofs.Chosen.{either}
 use Rattle.tally.specs.Tally.{most, hasKey, holdingIn, tallyOf, entriesThen, numberOf}
 use Rattle.tally.specs.History.{without, distinct, Among, Agreeing, Fitting, Reordered, none, next, swapped}
 use Rattle.tally.specs.History.{further}
@@ -20,8 +21,8 @@ use Rattle.tally.specs.declared.Holding.{Holding}
 use Rattle.tally.specs.declared.Holding.the-variants.{Count, Nothing}
 use Rattle.tally.specs.declared.Tallied.{Tallied}
 use Rattle.tally.specs.declared.Tallied.the-variants.{Entered, AlreadyHeld, OtherCount, Full}
-use Rattle.tally.proofs.Keys.{either, key-of, key-turned, entry-is, holding-new, holding-stays, holding-same}
-use Rattle.tally.proofs.Keys.{held-among, none-at, beyond, distinct-holds, distinct-held, distinct-new}
+use Rattle.tally.proofs.Keys.{key-of, key-turned, entry-is, holding-new, holding-stays, holding-same, held-among}
+use Rattle.tally.proofs.Keys.{none-at, beyond, distinct-holds, distinct-held, distinct-new}
 use Rattle.tally.proofs.Ways.{heldBy, Way, held, other, full, new, ways, entries-are, Taken, again, fresh, taken}
 use Rattle.tally.proofs.Ways.{taken-answers, then-again, then-fresh, Same, same-refl, same-trans, same-then}
 use Rattle.tally.proofs.Ways.{exchanged}

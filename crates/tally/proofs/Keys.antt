@@ -10,16 +10,12 @@ use borrow.Author.Tests.{eq-eqb, eqb-true}
 use lib.Dec.{eqb}
 use lib.ListN.{length, getD}
 use Rattle.laws.specs.Table.{both}
+use Rattle.laws.proofs.Chosen.{either}
 use Rattle.tally.specs.Tally.{hasKey, holdingIn, totalIn}
 use Rattle.tally.specs.History.{without, distinct}
 use Rattle.tally.specs.declared.Entry.{Entry}
 use Rattle.tally.specs.declared.Holding.{Holding}
 use Rattle.tally.specs.declared.Holding.the-variants.{Count, Nothing}
-
--- a test comes out one way or the other
-pub either : {A : Type 0} (t : Bool) → (t ≡ true → A) → (t ≡ false → A) → A
-either true f g = f refl
-either false f g = g refl
 
 -- a key is an entry's where both of its numbers are
 pub key-of : (unit number : ℕ) (e : Entry) → hasKey unit number e ≡ true → (e .unit ≡ unit) × (e .number ≡ number)

@@ -10,6 +10,7 @@ use native.Mathlib.Decide.{decLe, ℕ-discrete}
 use borrow.Author.Tests.{eq-eqb, ne-eqb, lt-ltb, le-ltb}
 use lib.Dec.{eqb, ltb}
 use lib.ListN.{length, length-append}
+use Rattle.laws.proofs.Chosen.{either}
 use Rattle.tally.specs.Tally.{most, hasKey, holdingIn, totalIn, tallyBy, tallyOf, entriesBy, entriesThen}
 use Rattle.tally.specs.Tally.{numberOf}
 use Rattle.tally.specs.declared.Entry.{Entry}
@@ -17,8 +18,7 @@ use Rattle.tally.specs.declared.Holding.{Holding}
 use Rattle.tally.specs.declared.Holding.the-variants.{Count, Nothing}
 use Rattle.tally.specs.declared.Tallied.{Tallied}
 use Rattle.tally.specs.declared.Tallied.the-variants.{Entered, AlreadyHeld, OtherCount, Full}
-use Rattle.tally.proofs.Keys.{either, key-of, key-turned, orElse, holding-append, holding-other, alone}
-use Rattle.tally.proofs.Keys.{total-append}
+use Rattle.tally.proofs.Keys.{key-of, key-turned, orElse, holding-append, holding-other, alone, total-append}
 
 -- what is held under an entry's key
 abbrev pub heldBy : List Entry → Entry → Holding
