@@ -87,8 +87,8 @@ pub fn ask(book: &[u32; WORDS], unit: u32, number: u32) -> Holding
     Holding::Nothing
 }
 
-// The first row with a key; the row after all entries where none has it. Numbers differ more often than units, so they
-// are compared first.
+// The first row with a key; the row after all entries where none has it. In a large book numbers differ more often than
+// units, so they are compared first.
 fn row_of(book: &[u32; WORDS], unit: u32, number: u32) -> usize
     ensures { λ r. ⌜ r ≡ placeOf (entriesOf (now (book .entry))) unit number ⌝ }
 {
