@@ -103,14 +103,17 @@ impl Generator {
 
     /// Any state, ours or not.
     pub fn state(&mut self) -> State {
+        let hz: [u16; 10] = std::array::from_fn(|_| self.next() as u16);
+        let last_sy = [None, Some(0), Some(1), Some(7), Some(hz[1])];
         let mut state = State {
-            hz: std::array::from_fn(|_| self.next() as u16),
-            fresh: false,
+            hz,
+            heard: true,
+            last_sy: last_sy[usize::from(hz[0] % 5)],
         };
         match self.below(8) {
             0 => state.hz = [65_535; 10],
             1 => state.hz = [0; 10],
-            2 => state.fresh = true,
+            2 => state.heard = false,
             _ => {}
         }
         state
@@ -138,7 +141,7 @@ impl Generator {
         })
     }
 
-    /// A frame for a recording, with this SY unless it is a break.
+    /// A frame for a recording, hit or not; it reads with this SY unless that is hit too.
     pub fn frame(&mut self, sy: u16) -> Frame {
         let mut record = self.record();
         record.fields[27] = sy;
@@ -170,14 +173,15 @@ impl Generator {
                 record.fields[26] = (self.below(8) == 0).into();
                 frame = frame::lay(&record);
             }
-            9 => frame::flip(&mut frame, 144),
+            9 => frame::flip(&mut frame, SY_PLACE),
             10 => frame = self.one_of(&[[0; 18], [255; 18]]),
             _ => {}
         }
         frame
     }
 
-    /// The frames of a recording, in voice blocks.
+    /// The frames of a recording, in voice blocks. In three of four no SY is hit, and then the SY
+    /// are in turn but where frames are lost or come again; in some many frames are refused with 6.
     fn voice(&mut self) -> Vec<Vec<Frame>> {
         let frames = match self.below(100) {
             0..=79 => 1 + self.below(12),
@@ -185,20 +189,68 @@ impl Generator {
             _ => 200 + self.below(800),
         };
         let most_in_block = self.one_of(&[1, 2, 5, 20, 1000]);
-        let mut blocks = Vec::new();
-        let mut made = 0;
-        while made < frames {
-            let count = (1 + self.below(most_in_block)).min(frames - made);
-            blocks.push(
-                (made..made + count)
-                    .map(|k| self.frame((k % 2) as u16))
-                    .collect(),
-            );
-            made += count;
+        let in_turn = self.below(4) != 0;
+        let refused_of_8 = self.one_of(&[0, 0, 0, 0, 1, 1, 2, 2, 4, 8]);
+        let mut voice: Voice = Vec::new();
+        for block in 0.. {
+            let count = (1 + self.below(most_in_block)).min(frames - voice.len());
+            for _ in 0..count {
+                let sy = (voice.len() % 2) as u16;
+                let mut frame = self.frame(sy);
+                if self.below(8) < refused_of_8 {
+                    let mut record = self.record();
+                    (record.fields[26], record.fields[27]) = (1, sy);
+                    frame = frame::lay(&record);
+                }
+                if in_turn && frame::read_frame(&frame).record.sy() != sy {
+                    frame::flip(&mut frame, SY_PLACE);
+                }
+                voice.push((block, frame));
+            }
+            if voice.len() == frames {
+                break;
+            }
         }
+        for _ in 0..self.one_of(&[0, 1, 1, 1, 2, 5]) {
+            self.lose_or_repeat(&mut voice);
+        }
+        let blocks = voice.chunk_by(|a, b| a.0 == b.0);
         blocks
+            .map(|block| block.iter().map(|&(_, frame)| frame).collect())
+            .collect()
+    }
+
+    /// Loses one frame, two in a row or three, or lets one come once or twice more: at the front,
+    /// at the end, beside the edge of two voice blocks, or anywhere. A frame stays.
+    fn lose_or_repeat(&mut self, voice: &mut Voice) {
+        let edges: Vec<usize> = (1..voice.len())
+            .filter(|&k| voice[k].0 != voice[k - 1].0)
+            .collect();
+        let at = match self.below(8) {
+            0 | 1 => 0,
+            2 => voice.len() - 1,
+            3 | 4 if !edges.is_empty() => self.one_of(&edges) - self.below(2),
+            _ => self.below(voice.len()),
+        };
+        if self.below(4) == 0 {
+            for _ in 0..1 + self.below(2) {
+                voice.insert(at, voice[at]);
+            }
+            return;
+        }
+        let count = self.one_of(&[1, 1, 1, 2, 2, 3]);
+        if count < voice.len() {
+            let at = at.min(voice.len() - count);
+            voice.drain(at..at + count);
+        }
     }
 }
+
+/// Frames, each with the number of its voice block.
+type Voice = Vec<(usize, Frame)>;
+
+/// The place of SY.
+const SY_PLACE: usize = 144;
 
 /// A block as it is put down: its length may say something else than its payload.
 #[derive(Clone, Debug)]
@@ -314,10 +366,16 @@ pub fn edges() -> Vec<Edge> {
     edges.few_at_the_limit();
     edges.many_at_the_limit();
     edges.wild_at_the_limit();
+    edges.breaks();
+    edges.refused_and_breaks();
     edges.0
 }
 
 struct Edges(Vec<Edge>);
+
+/// Voice blocks of the frames of a voice that has SY 0, 1, 0 and so on, by their numbers from 1 on:
+/// below 0 the frame is refused with 6, and 10 more than its number has its SY hit.
+type Told<'a> = &'a [&'a [i8]];
 
 /// The length of the head, and of the smallest sound recording up to its end block.
 const AFTER_HEAD: u32 = 14;
@@ -450,19 +508,19 @@ impl Edges {
             "expansion bit set, and repaired",
             sound(3, 4, &[&expansion]),
         );
-        let mut state_kept = vec![
+        let mut lsps_kept = vec![
             frame::lay(&g.record()),
             expansion[0],
             frame::lay(&g.record()),
         ];
-        state_kept.extend([expansion[7], expansion[9], frame::lay(&g.record())]);
+        lsps_kept.extend([expansion[7], expansion[9], frame::lay(&g.record())]);
         self.sound_one(
-            "state kept over refused frames",
-            sound(4, 5, &[&state_kept[..2], &state_kept[2..]]),
+            "LSPs kept over refused frames",
+            sound(4, 5, &[&lsps_kept[..2], &lsps_kept[2..]]),
         );
         self.sound_one(
             "first frame refused",
-            sound(5, 6, &[&expansion[..1], &state_kept[..1]]),
+            sound(5, 6, &[&expansion[..1], &lsps_kept[..1]]),
         );
         let falling: Vec<Frame> = (0..40).map(|_| frame::lay(&g.falling_record())).collect();
         self.sound_one("falling parameters", sound(6, 7, &[&falling]));
@@ -1243,6 +1301,94 @@ impl Edges {
         self.refused("65537 bytes of many voices", bytes, 1, 0);
     }
 
+    /// Frames lost, repeated and with SY hit.
+    fn breaks(&mut self) {
+        let told: &[(&str, Told)] = &[
+            ("no frame lost", &[&[1, 2, 3, 4], &[5, 6, 7, 8]]),
+            ("no frame lost, one voice", &[&[1, 2, 3, 4, 5, 6, 7, 8]]),
+            ("the first frame lost", &[&[2, 3, 4], &[5, 6, 7, 8]]),
+            ("a middle frame lost", &[&[1, 2, 4], &[5, 6, 7, 8]]),
+            ("the last frame lost", &[&[1, 2, 3, 4], &[5, 6, 7]]),
+            ("two in a row lost", &[&[1, 4], &[5, 6, 7, 8]]),
+            ("the first two lost", &[&[3, 4], &[5, 6, 7, 8]]),
+            ("two in a row lost over an edge", &[&[1, 2, 3], &[6, 7, 8]]),
+            ("two lost apart", &[&[1, 3, 4], &[5, 6, 8]]),
+            ("three in a row lost", &[&[1, 5, 6], &[7, 8]]),
+            ("three in a row lost over an edge", &[&[1, 2], &[6, 7, 8]]),
+            ("the first three lost", &[&[4], &[5, 6, 7, 8]]),
+            ("a frame repeated", &[&[1, 2, 2, 3, 4], &[5, 6, 7, 8]]),
+            ("a frame twice repeated", &[&[1, 2, 3, 3, 3], &[4, 5]]),
+            ("a frame repeated over an edge", &[&[1, 2], &[2, 3, 4]]),
+            ("the first frame repeated", &[&[1, 1, 2], &[3, 4]]),
+            ("one lost before an edge", &[&[1, 2, 3], &[5, 6, 7, 8]]),
+            ("one lost after an edge", &[&[1, 2, 3, 4], &[6, 7, 8]]),
+            (
+                "each frame in its own voice",
+                &[&[1], &[2], &[3], &[4], &[5]],
+            ),
+            (
+                "each frame in its own voice, one lost",
+                &[&[1], &[2], &[4], &[5], &[6]],
+            ),
+            ("one frame with SY 1", &[&[2]]),
+            ("one frame with SY 0", &[&[3]]),
+            ("SY of the first hit", &[&[11, 2, 3], &[4, 5]]),
+            ("SY of a middle one hit", &[&[1, 2, 13, 4, 5]]),
+            ("SY before an edge hit", &[&[1, 2, 13], &[4, 5]]),
+            ("SY after an edge hit", &[&[1, 2, 3], &[14, 5, 6]]),
+            ("SY of the last hit", &[&[1, 2, 3], &[4, 15]]),
+        ];
+        for (name, voice) in told {
+            self.told(name, voice);
+        }
+    }
+
+    /// The same with frames refused with 6 among them.
+    fn refused_and_breaks(&mut self) {
+        let told: &[(&str, Told)] = &[
+            ("a refused frame in turn", &[&[1, -2, 3, 4], &[5]]),
+            ("a refused frame in turn at an edge", &[&[1, 2, -3], &[4]]),
+            ("a refused frame that is a break", &[&[1, -3, 4], &[5]]),
+            ("a refused frame in a row of breaks", &[&[1, -3, 5], &[6]]),
+            ("a frame lost after a refused one", &[&[1, -2, 4, 5]]),
+            ("a frame lost before a refused one", &[&[1, 2, -4, 5]]),
+            ("a refused frame, an edge, one lost", &[&[1, -2], &[4, 5]]),
+            ("a refused frame repeated", &[&[1, -2, -2, 3]]),
+            ("two refused in turn", &[&[1, -2], &[-3, 4]]),
+            ("two refused, a frame lost between", &[&[1, -2], &[-4, 5]]),
+            ("every frame refused", &[&[-1, -2], &[-3, -4]]),
+            ("every frame refused, two lost", &[&[-1, -3], &[-4, -6]]),
+            ("first frame refused, SY 0", &[&[-1, 2, 3]]),
+            ("first frame refused, SY 1", &[&[-2, 3, 4]]),
+            ("first frame refused, then lost", &[&[-1, 3, 4]]),
+            ("first two refused, SY 1 and 1", &[&[-2], &[-4], &[5, 6]]),
+            ("last frame refused", &[&[1, 2], &[3, -4]]),
+            ("last frame refused, a break", &[&[1, 2], &[3, -5]]),
+            ("one frame refused, SY 1", &[&[-2]]),
+        ];
+        for (name, voice) in told {
+            self.told(name, voice);
+        }
+    }
+
+    /// A sound recording of the voice blocks told.
+    fn told(&mut self, name: &str, voice: Told) {
+        let frames = spoken(23, 8);
+        let frame = |&told: &i8| {
+            let k = usize::from(told.unsigned_abs());
+            let mut record = frame::read_frame(&frames[(k - 1) % 10]).record;
+            record.fields[26] = (told < 0).into();
+            record.fields[27] ^= u16::from(k > 10);
+            frame::lay(&record)
+        };
+        let voice: Vec<Vec<Frame>> = voice
+            .iter()
+            .map(|block| block.iter().map(frame).collect())
+            .collect();
+        let blocks = sound_blocks(10, self.0.len() as u32, &voice);
+        self.sound_one(name, joined(&blocks));
+    }
+
     /// A head and voice blocks of so many frames, the last one saying another length if so, and
     /// then some bytes.
     fn at_the_limit(
@@ -1452,7 +1598,7 @@ pub fn recording(seed: u64, n: u64) -> Vec<u8> {
 #[cfg(test)]
 mod tests {
     use super::*;
-    use std::collections::BTreeSet;
+    use std::collections::{BTreeMap, BTreeSet};
 
     #[test]
     fn the_generator_is_splitmix64() {
@@ -1494,6 +1640,63 @@ mod tests {
         assert_eq!(refused[8..].iter().sum::<u32>(), 2_000);
         assert!(refused[8..].iter().all(|&n| n > 150), "{refused:?}");
         assert!(sizes.len() > 20, "{sizes:?}");
+    }
+
+    #[test]
+    fn recordings_lose_repeat_and_refuse_frames() {
+        let mut reached = BTreeMap::new();
+        for n in (1..2_000).step_by(2) {
+            let bytes = recording(6, n);
+            let sound = recording::read(&bytes).unwrap();
+            let mut here = BTreeSet::new();
+            let mut before: Option<(&[u8], Record)> = None;
+            let mut all_refused = sound.frames > 2;
+            let mut unbroken = true;
+            for (_, payload) in sound.voice_blocks() {
+                for (at, frame) in payload.chunks_exact(FRAME_LENGTH).enumerate() {
+                    let record = frame::read(frame).unwrap().record;
+                    let refused = record.sp() == 1;
+                    all_refused &= refused;
+                    let same = match &before {
+                        Some((_, last)) => record.sy() == last.sy(),
+                        None => record.sy() == 1,
+                    };
+                    unbroken &= !same;
+                    here.insert(match (&before, at, same) {
+                        (None, _, true) => "the first is a break",
+                        (None, _, false) => "the first is none",
+                        (_, 0, true) => "a break at an edge",
+                        (_, 0, false) => "none at an edge",
+                        (_, _, true) => "a break within a block",
+                        (_, _, false) => "none within a block",
+                    });
+                    if refused && same {
+                        here.insert("a refused one is a break");
+                    }
+                    if let Some((bytes, last)) = before {
+                        if bytes == frame {
+                            here.insert("a frame comes again");
+                        }
+                        if last.sp() == 1 && same {
+                            here.insert("a break after a refused one");
+                        }
+                    }
+                    before = Some((frame, record));
+                }
+            }
+            if unbroken && sound.frames > 2 {
+                here.insert("no break");
+            }
+            if all_refused {
+                here.insert("every frame refused");
+            }
+            for what in here {
+                *reached.entry(what).or_insert(0) += 1;
+            }
+        }
+        assert_eq!(reached.len(), 11, "{reached:?}");
+        assert!(reached.values().all(|&n| n >= 40), "{reached:?}");
+        assert!((200..500).contains(&reached["no break"]), "{reached:?}");
     }
 
     #[test]

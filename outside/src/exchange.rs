@@ -72,9 +72,7 @@ fn frame_heard(out: &mut Vec<u8>, recording: &[u8], k: usize) {
     let mut found = None;
     if let Ok(sound) = recording::read(recording) {
         for heard in sound.heard().take(k) {
-            if let Ok(values) = &heard.values {
-                state = values.state;
-            }
+            state = heard.state;
             found = Some(heard);
         }
         if k > sound.frames as usize {
@@ -96,7 +94,7 @@ fn frame_heard(out: &mut Vec<u8>, recording: &[u8], k: usize) {
     }
 }
 
-/// The outcome, what it tells, the mark, the delays and the state.
+/// The outcome, what it tells, the mark, the delays and the state after.
 fn told(
     out: &mut Vec<u8>,
     outcome: usize,
@@ -109,10 +107,16 @@ fn told(
     let (mark, delays) = values.map_or((0, [0; 4]), |values| (values.mark, values.delays));
     say(out, [usize::from(mark)]);
     say(out, delays.map(usize::from));
-    if !state.fresh {
+    say_state(out, state);
+}
+
+/// 1 if the state has heard a frame, its Hz, and its last SY if it has one.
+fn say_state(out: &mut Vec<u8>, state: &State) {
+    if state.heard {
         say(out, [1]);
     }
     say(out, state.hz.map(usize::from));
+    say(out, state.last_sy.map(usize::from));
 }
 
 /// Where the next frame stands from a place on with so many bytes of a voice block left there, and how many bytes of
@@ -130,13 +134,27 @@ fn find(bytes: &[u8], at: usize, left: usize) -> Option<(usize, usize)> {
     voice.then(|| (at + HEADER_LENGTH, length - FRAME_LENGTH))
 }
 
+/// The state before a step, by how many times 11,001 frames were passed.
+fn before_the_step(times: usize) -> State {
+    let (hz, heard, last_sy) = match times {
+        2 => ([300; 10], true, None),
+        3 => ([0; 10], false, Some(0)),
+        4 => ([300; 10], true, Some(1)),
+        5 => ([300; 10], true, Some(7)),
+        _ => ([0; 10], false, None),
+    };
+    State { hz, heard, last_sy }
+}
+
 /// One step of a pass that counts three repaired frames and five breaks.
 fn next(out: &mut Vec<u8>, bytes: &[u8], n: usize) {
     let (mut at, mut left) = (n % 256, n / 256 % 32);
+    let times = n / 8192 % 8;
     let mut counts = Counts {
-        frames: (n / 8192 % 8 * 11_001) as u32,
+        frames: (times * 11_001) as u32,
         repaired: 3,
         breaks: 5,
+        state: before_the_step(times),
     };
     let ours = counts.frames <= 65_536 && counts.frames >= counts.repaired.max(counts.breaks);
     if let Some((first, rest)) = find(bytes, at, left).filter(|_| ours) {
@@ -148,28 +166,33 @@ fn next(out: &mut Vec<u8>, bytes: &[u8], n: usize) {
         frames,
         repaired,
         breaks,
+        state,
     } = counts;
     say(out, [at, left]);
     say(out, [frames, repaired, breaks].map(|n| n as usize));
+    say_state(out, &state);
 }
 
-/// The values of a frame's record with an index changed, after the state that the record itself leaves.
+/// The values of a frame's record with an index or two changed, after the state that the record itself leaves.
 fn values_after(out: &mut Vec<u8>, given: &[u8], n: usize) {
     let record = frame::read(given).map_or(Record::ZERO, |reading| reading.record);
-    let state = values::values(&record, &State::FRESH).map_or(State::FRESH, |v| v.state);
+    let state = values::state_after(&record, &State::FRESH);
     let mut changed = record;
     let index = (n / 8 % 8192) as u16;
     match n % 8 {
         1 => changed.fields[9] = index,
         2 => changed.fields[14] = index,
         3 => changed.fields[26] = index,
+        4 => changed.fields[27] = index,
+        5 => (changed.fields[26], changed.fields[27]) = (1, index),
         _ => {}
     }
+    let after = values::state_after(&changed, &state);
     match values::values(&changed, &state) {
-        Ok(values) => told(out, 0, None, Some(&values), &values.state),
+        Ok(values) => told(out, 0, None, Some(&values), &after),
         Err(refusal) => {
             let tells = (refusal.number == 2).then_some(refusal.tells as usize);
-            told(out, refusal.number.into(), tells, None, &state);
+            told(out, refusal.number.into(), tells, None, &after);
         }
     }
 }
@@ -194,6 +217,67 @@ fn small(g: &mut Generator, frames: usize) -> Vec<u8> {
     let first = 1 + g.below(frames);
     let parts = [&all[..first], &all[first..]];
     cases::sound(7, 1, &parts[..1 + usize::from(first < frames)])
+}
+
+/// A frame of its own with this SY, refused with 6 if so said.
+fn with_sy(g: &mut Generator, sy: u16, refused: bool) -> Frame {
+    let mut record = g.record();
+    record.fields[26] = refused.into();
+    record.fields[27] = sy;
+    frame::lay(&record)
+}
+
+/// SY 0 and 1, heard and refused.
+const KINDS: [(u16, bool); 4] = [(0, false), (1, false), (0, true), (1, true)];
+
+/// Steps from every kind of state over frames of every kind, each in a voice block of its own.
+fn steps(cases: &mut Vec<u8>, g: &mut Generator) {
+    let frames = KINDS.map(|(sy, refused)| with_sy(g, sy, refused));
+    let blocks: Vec<&[Frame]> = frames.chunks(1).collect();
+    let recording = cases::sound(7, 1, &blocks);
+    for header in [14, 38, 62, 86] {
+        for times in 0..8 {
+            put(cases, b'p', &recording, header + 8192 * times);
+        }
+        let within = header + HEADER_LENGTH + 256 * FRAME_LENGTH;
+        for times in [1, 2, 3, 4, 5] {
+            put(cases, b'p', &recording, within + 8192 * times);
+        }
+    }
+    // The same with SP hit, and put right.
+    let mut hit = frames;
+    for frame in &mut hit {
+        frame::flip(frame, 104);
+    }
+    let blocks: Vec<&[Frame]> = hit.chunks(1).collect();
+    let recording = cases::sound(7, 1, &blocks);
+    for header in [14, 38, 62, 86] {
+        for times in [1, 3, 4] {
+            put(cases, b'p', &recording, header + 8192 * times);
+        }
+    }
+}
+
+/// The kinds of the frames of small recordings in which some are refused: first, between others and last.
+const WITH_REFUSED: [&[(u16, bool)]; 5] = [
+    &[(0, true)],
+    &[(1, true)],
+    &[(1, true), (0, false), (0, true)],
+    &[(0, true), (1, true), (0, false)],
+    &[(0, false), (0, true), (1, false), (1, true)],
+];
+
+/// Each frame of these, the first in a voice block of its own; frame 0, and one past the last.
+fn frames_with_refused(cases: &mut Vec<u8>, g: &mut Generator) {
+    for kinds in WITH_REFUSED {
+        let frame = |&(sy, refused): &(u16, bool)| with_sy(g, sy, refused);
+        let frames: Vec<Frame> = kinds.iter().map(frame).collect();
+        let parts = [&frames[..1], &frames[1..]];
+        let recording = cases::sound(7, 1, &parts[..1 + usize::from(frames.len() > 1)]);
+        for k in 0..=frames.len() + 1 {
+            put(cases, b'k', &recording, k);
+        }
+    }
 }
 
 /// The cases that the stored answers are for.
@@ -293,12 +377,23 @@ pub fn cases() -> Vec<u8> {
         put(&mut cases, b'v', &frame::lay(&expanded), n + 8 * 500);
     }
     put(&mut cases, b'v', &[], 0);
+    for (sy, refused) in KINDS {
+        let given = with_sy(&mut g, sy, refused);
+        for n in [4, 5] {
+            for index in [0, 1, 2, 8191] {
+                put(&mut cases, b'v', &given, n + 8 * index);
+            }
+        }
+    }
+    steps(&mut cases, &mut g);
+    frames_with_refused(&mut cases, &mut g);
     cases
 }
 
 #[cfg(test)]
 mod tests {
     use super::*;
+    use std::collections::BTreeSet;
 
     fn lines(kind: u8, given: &[u8], n: usize) -> String {
         let mut cases = Vec::new();
@@ -327,26 +422,199 @@ mod tests {
         assert_eq!(lines(b'f', &sample, 14), "20 18 \n");
         assert_eq!(lines(b'f', &sample, 38 + 256 * 18), "38 0 \n");
         assert_eq!(lines(b'f', &sample, 56), "\n");
-        let hz = "100 210 420 620 1000 1470 1800 2225 2760 3190 \n";
+        let zeros = "0 ".repeat(10);
+        assert_eq!(
+            lines(b'k', &sample, 1),
+            format!("0 0 0 656 532 656 532 1 {HZ}0 \n")
+        );
         assert_eq!(
             lines(b'k', &sample, 2),
-            format!("15 0 0 656 532 656 532 1 {hz}")
+            format!("15 0 0 656 532 656 532 1 {HZ}1 \n")
         );
         assert_eq!(
             lines(b'k', &sample, 3),
-            format!("0 0 65536 0 0 0 0 0 1 {hz}")
+            format!("0 0 65536 0 0 0 0 0 1 {HZ}1 \n")
         );
         assert_eq!(
             lines(b'k', &sample, 0),
-            format!("0 0 65536 0 0 0 0 0 {}\n", "0 ".repeat(10))
+            format!("0 0 65536 0 0 0 0 0 {zeros}\n")
         );
-        assert_eq!(lines(b'p', &sample, 14), "14 0 0 3 5 \n");
-        assert_eq!(lines(b'p', &sample, 14 + 8192), "38 18 11002 3 6 \n");
         assert_eq!(
             lines(b'v', &[0; 18], 1 + 8 * 8),
-            format!("2 10 0 0 0 0 0 1 {hz}")
+            format!("2 10 0 0 0 0 0 1 {HZ}0 \n")
         );
-        assert_eq!(lines(b'v', &[0; 18], 3 + 8), format!("6 0 0 0 0 0 1 {hz}"));
+        assert_eq!(
+            lines(b'v', &[0; 18], 3 + 8),
+            format!("6 0 0 0 0 0 1 {HZ}0 \n")
+        );
+    }
+
+    /// The LSPs of a zero record.
+    const HZ: &str = "100 210 420 620 1000 1470 1800 2225 2760 3190 ";
+
+    /// The zero frame with this SY, refused with 6 if so said.
+    fn zero_but_for(sy: u16, refused: bool) -> Frame {
+        let mut record = Record::ZERO;
+        record.fields[26] = refused.into();
+        record.fields[27] = sy;
+        frame::lay(&record)
+    }
+
+    #[test]
+    fn a_refused_frame_leaves_its_sy_alone() {
+        let zeros = "0 ".repeat(10);
+        for sy in [0, 1] {
+            let first = cases::sound(1, 1, &[&[zero_but_for(sy, true)]]);
+            let expected = format!("0 6 0 0 0 0 0 {zeros}{sy} \n");
+            assert_eq!(lines(b'k', &first, 1), expected);
+            let expected = format!("0 0 65536 0 0 0 0 0 {zeros}{sy} \n");
+            assert_eq!(lines(b'k', &first, 2), expected);
+            let last = [zero_but_for(0, false), zero_but_for(sy, true)];
+            let last = cases::sound(1, 1, &[&last]);
+            let expected = format!("0 6 0 0 0 0 0 1 {HZ}{sy} \n");
+            assert_eq!(lines(b'k', &last, 2), expected);
+            let expected = format!("0 0 65536 0 0 0 0 0 1 {HZ}{sy} \n");
+            assert_eq!(lines(b'k', &last, 3), expected);
+        }
+    }
+
+    #[test]
+    fn values_change_the_sy_that_is_kept() {
+        let zeros = "0 ".repeat(10);
+        for (kind, index, expected) in [
+            (4, 0, format!("0 0 656 532 656 532 1 {HZ}0 \n")),
+            (4, 1, format!("0 0 656 532 656 532 1 {HZ}1 \n")),
+            (4, 2, format!("2 28 0 0 0 0 0 1 {HZ}0 \n")),
+            (4, 8191, format!("2 28 0 0 0 0 0 1 {HZ}0 \n")),
+            (5, 0, format!("6 0 0 0 0 0 1 {HZ}0 \n")),
+            (5, 1, format!("6 0 0 0 0 0 1 {HZ}1 \n")),
+            (5, 2, format!("2 28 0 0 0 0 0 1 {HZ}0 \n")),
+            (5, 8191, format!("2 28 0 0 0 0 0 1 {HZ}0 \n")),
+        ] {
+            let said = lines(b'v', &zero_but_for(0, false), kind + 8 * index);
+            assert_eq!(said, expected, "{kind} {index}");
+            let said = lines(b'v', &[], kind + 8 * index);
+            assert_eq!(said, expected, "{kind} {index}");
+        }
+        // After a record that is refused itself there is its SY alone.
+        for (kind, index, expected) in [
+            (0, 0, format!("6 0 0 0 0 0 {zeros}1 \n")),
+            (3, 0, format!("0 0 656 532 656 532 1 {HZ}1 \n")),
+            (3, 2, format!("2 27 0 0 0 0 0 {zeros}1 \n")),
+            (5, 0, format!("6 0 0 0 0 0 {zeros}0 \n")),
+            (5, 2, format!("2 28 0 0 0 0 0 {zeros}1 \n")),
+        ] {
+            let said = lines(b'v', &zero_but_for(1, true), kind + 8 * index);
+            assert_eq!(said, expected, "{kind} {index}");
+        }
+    }
+
+    #[test]
+    fn a_step_from_every_kind_of_state() {
+        let zeros = "0 ".repeat(10);
+        let hz300 = "300 ".repeat(10);
+        // The breaks after a frame with SY 0 and with SY 1, and the state if the frame leaves its SY alone.
+        for (times, breaks, state) in [
+            (1, [5, 6], zeros.clone()),
+            (2, [5, 6], format!("1 {hz300}")),
+            (3, [6, 5], zeros.clone()),
+            (4, [5, 6], format!("1 {hz300}")),
+            (5, [5, 5], format!("1 {hz300}")),
+        ] {
+            let n = 256 * 18 + 8192 * times;
+            for sy in [0, 1] {
+                let counts = format!("18 0 {} 3 {}", 11_001 * times + 1, breaks[sy]);
+                let heard = lines(b'p', &zero_but_for(sy as u16, false), n);
+                assert_eq!(heard, format!("{counts} 1 {HZ}{sy} \n"), "{times} {sy}");
+                let refused = lines(b'p', &zero_but_for(sy as u16, true), n);
+                assert_eq!(refused, format!("{counts} {state}{sy} \n"), "{times} {sy}");
+            }
+        }
+        // No step: no frame there, or counts that no pass has.
+        let sample = cases::sample();
+        for (times, state) in [
+            (0, zeros.clone()),
+            (1, zeros.clone()),
+            (2, format!("1 {hz300}")),
+            (3, format!("{zeros}0 ")),
+            (4, format!("1 {hz300}1 ")),
+            (5, format!("1 {hz300}7 ")),
+            (6, zeros.clone()),
+            (7, zeros.clone()),
+        ] {
+            let frames = 11_001 * times;
+            let said = lines(b'p', &sample, 56 + 8192 * times);
+            assert_eq!(said, format!("56 0 {frames} 3 5 {state}\n"));
+            if ![1, 2, 3, 4, 5].contains(&times) {
+                let said = lines(b'p', &sample, 38 + 256 * 18 + 8192 * times);
+                assert_eq!(said, format!("38 18 {frames} 3 5 {state}\n"));
+            }
+        }
+        let said = lines(b'p', &sample, 14 + 8192);
+        assert_eq!(said, format!("38 18 11002 3 5 1 {HZ}0 \n"));
+        let said = lines(b'p', &sample, 38 + 256 * 18 + 8192 * 4);
+        assert_eq!(said, format!("56 0 44005 4 6 1 {HZ}1 \n"));
+    }
+
+    /// The kind, what is given and n of each case.
+    fn parts(cases: &[u8]) -> impl Iterator<Item = (u8, &[u8], usize)> {
+        cases.chunks_exact(CASE_LENGTH).map(|case| {
+            let n = usize::from(u16::from_le_bytes([case[2], case[3]]));
+            (case[0], &case[CASE_HEAD..][..usize::from(case[1])], n)
+        })
+    }
+
+    #[test]
+    fn every_kind_of_state_and_outcome_is_among_the_cases() {
+        let cases = cases();
+        let (mut steps, mut changed) = (BTreeSet::new(), BTreeSet::new());
+        let mut heard = BTreeSet::new();
+        for (kind, given, n) in parts(&cases) {
+            match kind {
+                b'p' => {
+                    if let Some((first, _)) = find(given, n % 256, n / 256 % 32) {
+                        let record = frame::read(&given[first..][..FRAME_LENGTH]).unwrap().record;
+                        steps.insert((n / 8192, record.sy(), record.sp()));
+                    }
+                }
+                b'v' if [4, 5].contains(&(n % 8)) => {
+                    let record = frame::read(given).unwrap().record;
+                    changed.insert((n % 8, n / 8, record.sy(), record.sp()));
+                }
+                b'k' => {
+                    if let Ok(sound) = recording::read(given) {
+                        let refused = |k: usize| {
+                            let heard = k.checked_sub(1).and_then(|k| sound.heard().nth(k));
+                            heard.map(|heard| heard.values.is_err())
+                        };
+                        heard.insert((n.min(2), refused(n.wrapping_sub(1)), refused(n)));
+                    }
+                }
+                _ => {}
+            }
+        }
+        for (sy, sp) in [(0, 0), (1, 0), (0, 1), (1, 1)] {
+            assert!((0..8).all(|times| steps.contains(&(times, sy, sp))));
+            for index in [0, 1, 2, 8191] {
+                assert!([4, 5]
+                    .iter()
+                    .all(|&n| changed.contains(&(n, index, sy, sp))));
+            }
+        }
+        // Frame 0, the first one, one after another, and one past the last, refused or not.
+        for kind in [
+            (0, None, None),
+            (1, None, Some(false)),
+            (1, None, Some(true)),
+            (2, Some(false), Some(false)),
+            (2, Some(false), Some(true)),
+            (2, Some(true), Some(false)),
+            (2, Some(true), Some(true)),
+            (2, Some(false), None),
+            (2, Some(true), None),
+        ] {
+            assert!(heard.contains(&kind), "{kind:?}");
+        }
     }
 
     #[test]

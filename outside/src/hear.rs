@@ -1,5 +1,6 @@
-//! All that a recording holds, in one text: its head, every frame with its reading and its values
-//! under the running state, the voice blocks and the counts. The layout is set out in CASES.md.
+//! All that a recording holds, in one text: its head, every frame with its reading, its values
+//! under the running state and the state after, the voice blocks and the counts. The layout is set
+//! out in CASES.md.
 
 use crate::listing;
 use crate::recording::{self, Counts, Heard};
@@ -58,9 +59,11 @@ fn frame(out: &mut Vec<u8>, k: u32, heard: &Heard) {
                     .map(|&average| average.into()),
             );
             out.extend_from_slice(b" state");
-            numbers(out, values.state.hz.map(i64::from));
+            numbers(out, heard.state.hz.map(i64::from));
         }
     }
+    out.extend_from_slice(b" sy");
+    numbers(out, heard.state.last_sy.map(i64::from));
     out.push(b'\n');
 }
 
@@ -83,7 +86,9 @@ mod tests {
         let mut second = frame::Record::ZERO;
         second.fields[0] = 1;
         second.fields[27] = 1;
-        let frames = [frame::lay(&refused), [0; 18], frame::lay(&second)];
+        let mut frames = [frame::lay(&refused); 4];
+        (frames[1], frames[2]) = ([0; 18], frame::lay(&second));
+        frame::flip(&mut frames[3], 144);
         let recording = cases::sound(1, 1, &[&frames[..1], &frames[1..]]);
         let zeros = |n| " 0".repeat(n);
         let rest = [210, 420, 620, 1000, 1470, 1800, 2225, 2760, 3190];
@@ -92,17 +97,18 @@ mod tests {
         let values =
             " gains -1330 -993 -1330 -993 -1330 -993 -1330 -993 delays 656 532 656 532 averages";
         let expected = [
-            "unit 1 recording 1 frames 3\n".to_string(),
-            format!("frame 1{} 1 0 number 0 mark 0 refused 6\n", zeros(26)),
+            "unit 1 recording 1 frames 4\n".to_string(),
+            format!("frame 1{} 1 0 number 0 mark 0 refused 6 sy 0\n", zeros(26)),
             format!("frame 2{} number 0 mark 0{values}", zeros(28)),
             format!(" 800{eighths}").repeat(4),
-            format!(" state 100{hz}\n"),
+            format!(" state 100{hz} sy 0\n"),
             format!("frame 3 1{} 1 number 0 mark 0{values}", zeros(26)),
             [870, 1010, 1150, 1290]
                 .map(|average| format!(" {average}{eighths}"))
                 .concat(),
-            format!(" state 170{hz}\n"),
-            "block 0 20 18\nblock 1 44 36\nblock 2 0 0\n".to_string(),
+            format!(" state 170{hz} sy 1\n"),
+            format!("frame 4{} 1 1 number 0 mark 0 refused 6 sy 1\n", zeros(26)),
+            "block 0 20 18\nblock 1 44 54\nblock 2 0 0\n".to_string(),
             "repaired 0 breaks 2\n".to_string(),
         ];
         assert_eq!(

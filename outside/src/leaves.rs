@@ -130,11 +130,7 @@ fn averages(previous: [u16; 10], indices: [u16; 10]) -> u64 {
             (lsp::order_mark(&hz).into(), hz)
         }
     };
-    let state = State {
-        hz: previous,
-        fresh: false,
-    };
-    let averages = state.averages(&hz);
+    let averages = State::after(previous, 0).averages(&hz);
     as_one(first, averages.as_flattened().iter().map(|&n| n.into()))
 }
 

@@ -37,7 +37,7 @@ pub struct Answer {
     pub frames: u32,
     /// Frames whose correction number is not 0.
     pub repaired: u32,
-    /// Frames whose SY does not alternate from 0.
+    /// Frames with the SY of the frame before, and a first one with SY 1.
     pub breaks: u32,
 }
 
@@ -47,6 +47,8 @@ pub struct Heard {
     pub reading: Reading,
     /// The values, or refusal 6.
     pub values: Result<Values, Refusal>,
+    /// The state after.
+    pub state: State,
 }
 
 /// The number in four bytes, the lowest first.
@@ -147,29 +149,32 @@ impl<'a> Recording<'a> {
         let mut state = State::FRESH;
         self.readings().map(move |reading| {
             let values = values::values(&reading.record, &state);
-            if let Ok(values) = values {
-                state = values.state;
+            state = values::state_after(&reading.record, &state);
+            Heard {
+                reading,
+                values,
+                state,
             }
-            Heard { reading, values }
         })
     }
 }
 
-/// The repaired frames and the sync breaks among readings.
+/// The repaired frames and the sync breaks among readings, and the state that runs with them.
 #[derive(Clone, Copy, Debug, Default, PartialEq, Eq)]
 pub struct Counts {
     pub frames: u32,
     pub repaired: u32,
     pub breaks: u32,
+    pub state: State,
 }
 
 impl Counts {
     /// Counts the next frame in.
     pub fn count(&mut self, reading: &Reading) {
-        let expected_sy = (self.frames % 2) as u16;
         self.frames += 1;
         self.repaired += u32::from(reading.number != 0);
-        self.breaks += u32::from(reading.record.sy() != expected_sy);
+        self.breaks += u32::from(self.state.is_break(reading.record.sy()));
+        self.state = values::state_after(&reading.record, &self.state);
     }
 }
 
@@ -209,7 +214,7 @@ pub fn voice_block(recording: &[u8], k: usize) -> &[u8] {
 #[cfg(test)]
 mod tests {
     use super::*;
-    use crate::cases;
+    use crate::{cases, lsp};
 
     #[test]
     fn voice_blocks_are_parts_of_the_callers_buffer() {
@@ -227,7 +232,7 @@ mod tests {
     }
 
     #[test]
-    fn the_state_runs_on_across_blocks_and_stays_on_refusal() {
+    fn the_state_runs_on_across_blocks_and_over_refused_frames() {
         let mut g = cases::Generator::new(3);
         let mut records = [g.record(), g.record(), g.record(), g.record()];
         records[1].fields[26] = 1;
@@ -235,13 +240,24 @@ mod tests {
         let recording = cases::sound(1, 1, &[&frames[..2], &frames[2..3], &frames[3..]]);
         let heard: Vec<Heard> = read(&recording).unwrap().heard().collect();
         let first = values::values(&records[0], &State::FRESH).unwrap();
-        let third = values::values(&records[2], &first.state).unwrap();
+        let mut second = first.state;
+        second.last_sy = Some(records[1].sy());
+        let third = values::values(&records[2], &second).unwrap();
         let fourth = values::values(&records[3], &third.state).unwrap();
         let all = [Ok(first), Err(Refusal::new(6, 0)), Ok(third), Ok(fourth)];
+        let states = [first.state, second, third.state, fourth.state];
         assert_eq!(heard.len(), 4);
         for k in 0..4 {
             assert_eq!(heard[k].values, all[k]);
+            assert_eq!(heard[k].state, states[k]);
             assert_eq!(heard[k].reading.record, records[k]);
+        }
+        // The averages go from the first frame to the third.
+        let previous = first.state.hz.map(u32::from);
+        let present = third.state.hz.map(u32::from);
+        assert_ne!(previous, lsp::frequencies(records[1].lsp()).map(u32::from));
+        for j in 0..10 {
+            assert_eq!(third.averages[0][j], 7 * previous[j] + present[j]);
         }
     }
 
@@ -253,14 +269,14 @@ mod tests {
         let mut repaired = clean;
         frame::flip(&mut repaired, 21);
         frame::flip(&mut repaired, 144);
-        // Frame 1: SY 0. Frame 2: SY 0 and so a break. Frame 3: SY 1, a break, and repaired.
+        // Frame 1: SY 0. Frame 2: SY 0 and so a break. Frame 3: SY 1, no break, and repaired.
         let recording = cases::sound(1, 2, &[&[clean, clean, repaired]]);
         let expected = Answer {
             unit: 1,
             number: 2,
             frames: 3,
             repaired: 1,
-            breaks: 2,
+            breaks: 1,
         };
         assert_eq!(answer(&recording), Ok(expected));
         assert!(read(&recording)

@@ -252,28 +252,29 @@ fn listing_from_hearing(bytes: &[u8]) -> String {
         ..
     } = answer;
     let mut lines = format!("unit {unit} recording {number} frames {frames}\n");
-    let (mut repaired, mut breaks) = (0, 0);
+    let mut repaired = 0;
+    // Before the first frame a 1 stands in, so that a break is always one that comes twice.
+    let mut all_sy = vec!["1"];
     for line in heard.lines().filter(|line| line.starts_with("frame ")) {
         let words: Vec<&str> = line.split(' ').collect();
         let (k, sy) = (words[1], words[29]);
         assert_eq!((words[30], words[32]), ("number", "mark"));
         let (number, mark) = (words[31], words[33]);
         repaired += u32::from(number != "0");
-        breaks += u32::from((k.parse::<u32>().unwrap() % 2 == 1) != (sy == "0"));
+        all_sy.push(sy);
         if words[34] == "refused" {
             assert_eq!(words[28], "1");
-            assert_eq!(words[35..], ["6"]);
+            assert_eq!(words[35..], ["6", "sy", sy]);
             lines.push_str(&format!("{k} {number} refused 6\n"));
         } else {
             assert_eq!((words[28], words[34], words[43]), ("0", "gains", "delays"));
-            assert_eq!(
-                (words[48], words[89], words.len()),
-                ("averages", "state", 100)
-            );
+            assert_eq!((words[48], words[89]), ("averages", "state"));
+            assert_eq!(words[100..], ["sy", sy]);
             let delays = words[44..48].join(" ");
             lines.push_str(&format!("{k} {number} {mark} {sy} {delays}\n"));
         }
     }
+    let breaks = all_sy.windows(2).filter(|two| two[0] == two[1]).count() as u32;
     assert_eq!((answer.repaired, answer.breaks), (repaired, breaks));
     lines.push_str(&format!("repaired {repaired} breaks {breaks}\n"));
     lines
@@ -341,7 +342,7 @@ fn a_thousand_recordings_stay_small() {
             total += hear::hear(&bytes).len();
         }
     }
-    assert!(edges.len() < 500, "{} edges", edges.len());
+    assert!(edges.len() < 600, "{} edges", edges.len());
     assert!(refused >= 500, "{refused} refused");
     assert!(total < 15_000_000, "{total} bytes");
 }

@@ -393,11 +393,11 @@ fn lines(dropped: usize, end: usize, frames: usize) -> String {
     }
 }
 
-/// The edges from the first one made for salvaging on.
+/// The edges made for salvaging.
 fn edges_for_salvaging() -> BTreeMap<String, Vec<u8>> {
     let mut edges = cases::edges();
     assert_eq!(edges[325].name, "65,537 bytes, header cut");
-    let edges = edges.drain(326..);
+    let edges = edges.drain(326..498);
     edges.map(|edge| (edge.name, edge.bytes)).collect()
 }
 

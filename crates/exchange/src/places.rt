@@ -4,6 +4,7 @@ use blocks::Found;
 use passes::Counts;
 use passes::Pass;
 use record::Record;
+use values::LastSy;
 use values::Outcome;
 use values::State;
 use values::Values;
@@ -44,6 +45,11 @@ fn kept(state: State) {
         say::number(1);
     }
     say::shorts(&hz);
+    let last = state.last;
+    match last {
+        LastSy::Never => {}
+        LastSy::Was(sy) => say::number(sy as usize),
+    }
 }
 
 // The next frame from any place, with any number of bytes left: its first byte and how many come after it, or nothing.
@@ -57,9 +63,10 @@ pub fn find(s: &[u8], n: usize) {
     }
 }
 
-// The next frame of any pass: where the pass is then, and its counts.
+// The next frame of any pass: where the pass is then, its counts and its state.
 pub fn next(s: &[u8], n: usize) {
-    let state = State::fresh();
+    let q = n / 8192 % 8;
+    let state = any_state(q);
     let counts = Counts {
         repaired: 3,
         breaks: 5,
@@ -67,13 +74,42 @@ pub fn next(s: &[u8], n: usize) {
     let pass = Pass {
         at: n % 256,
         left: n / 256 % 32,
-        frames: (n / 8192 % 8 * 11001) as u32,
+        frames: (q * 11001) as u32,
         counts,
         state,
     };
     let step = steps::next(s, pass);
     let after = step.pass;
     passed(after);
+    kept(after.state);
+}
+
+// A fresh state, or one that no recording leads to: LSPs without a last SY, a last SY without LSPs, one that no frame has.
+fn any_state(q: usize) -> State {
+    let hz = [300u16; 10];
+    match q {
+        2 => State {
+            begun: true,
+            hz,
+            last: LastSy::Never,
+        },
+        3 => State {
+            begun: false,
+            hz: [0u16; 10],
+            last: LastSy::Was(0),
+        },
+        4 => State {
+            begun: true,
+            hz,
+            last: LastSy::Was(1),
+        },
+        5 => State {
+            begun: true,
+            hz,
+            last: LastSy::Was(7),
+        },
+        _ => State::fresh(),
+    }
 }
 
 fn passed(pass: Pass) {
@@ -102,6 +138,7 @@ fn altered(r: Record, n: usize) -> Record {
     let mut lsp = r.lsp;
     let mut subframes = r.subframes;
     let mut sp = r.sp;
+    let mut sy = r.sy;
     if which == 1 {
         lsp[9] = x;
     }
@@ -111,10 +148,17 @@ fn altered(r: Record, n: usize) -> Record {
     if which == 3 {
         sp = x;
     }
+    if which == 4 {
+        sy = x;
+    }
+    if which == 5 {
+        sp = 1;
+        sy = x;
+    }
     Record {
         lsp,
         subframes,
         sp,
-        sy: r.sy,
+        sy,
     }
 }

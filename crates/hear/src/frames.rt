@@ -2,6 +2,7 @@
 use crate::line;
 use frame::Reading;
 use passes::Hearing;
+use values::LastSy;
 use values::Outcome;
 use values::State;
 use values::Values;
@@ -28,7 +29,8 @@ fn one(k: u32, hearing: Hearing) -> bool {
     let values = hearing.values;
     let named = line::told(&mut out, 0, b"frame", k as u64);
     let read = read_in(&mut out, named, reading);
-    let end = heard(&mut out, read, values);
+    let told = heard(&mut out, read, values);
+    let end = synced(&mut out, told, values.state);
     line::written(&mut out, end)
 }
 
@@ -57,7 +59,16 @@ fn heard(out: &mut [u8; 1024], at: usize, values: Values) -> usize {
     }
 }
 
-// Gains, delays, averages and the state after.
+// The last SY of the state after.
+fn synced(out: &mut [u8; 1024], at: usize, state: State) -> usize {
+    let last = state.last;
+    match last {
+        LastSy::Never => at,
+        LastSy::Was(sy) => line::told(out, at, b" sy", sy as u64),
+    }
+}
+
+// Gains, delays, averages and the Hz of the state after.
 fn values_in(out: &mut [u8; 1024], at: usize, values: Values) -> usize {
     let cg = values.cg;
     let pg = values.pg;

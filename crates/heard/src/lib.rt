@@ -3,13 +3,14 @@
 use delays::Meant;
 use gains::Gain;
 use record::Record;
+use values::LastSy;
 use values::Outcome;
 use values::State;
 use values::Values;
 ghost use mathlib.Core.Path.{_≡_};
 ghost use Prim.Native.Nat.{_<_};
 ghost use Rattle.gains.specs.Gains.{gainOf};
-ghost use Rattle.values.specs.Values.{valueIn, indicesAt, gainsOf, delaysOf, stateAfter, previousOf, heardValues};
+ghost use Rattle.values.specs.Values.{valueIn, indicesAt, gainsOf, delaysOf, heardState, previousOf, heardValues};
 
 // The values of a record as if it were not refused. Its LSPs are used as they are, in order or not.
 pub fn heard_values(r: Record, before: State) -> Values
@@ -25,7 +26,7 @@ pub fn heard_values(r: Record, before: State) -> Values
     let previous = previous_of(before, used);
     let averages = averages::averages(previous, used);
     let mark = lsp::order_mark(present);
-    let state = state_after(used);
+    let state = state_after(used, r.sy);
     Values {
         outcome: Outcome::Heard,
         cg,
@@ -95,9 +96,13 @@ fn previous_of(before: State, used: [u16; 10]) -> [u16; 10]
     used
 }
 
-// The state after a frame of which these LSPs were used.
-fn state_after(hz: [u16; 10]) -> State
-    ensures { λ s. ⌜ s ≡ stateAfter hz ⌝ }
+// The state after a frame of which these LSPs were used, with this SY.
+fn state_after(hz: [u16; 10], sy: u16) -> State
+    ensures { λ s. ⌜ s ≡ heardState hz sy ⌝ }
 {
-    State { begun: true, hz }
+    State {
+        begun: true,
+        hz,
+        last: LastSy::Was(sy),
+    }
 }

@@ -72,6 +72,16 @@ total-none f (suc n) h =
     let b = h (suc n) (omega arith) (omega arith) in
     omega (arith, a, b)
 
+-- a sum that is 0 has no other part
+pub total-zero : (f : ℕ → ℕ) (n : ℕ) → total f n ≡ 0 → (k : ℕ) → 1 ≤ k → k ≤ n → f k ≡ 0
+unfolding total
+total-zero f zero e k a b = absurd (omega arith)
+total-zero f (suc n) e k a b = go (ℕ-discrete k (suc n)) (λ c. total-zero f n (omega arith) k a c)
+  where
+    go : Dec (k ≡ suc n) → (k ≤ n → f k ≡ 0) → f k ≡ 0
+    go (yes q) rest = let s = ap f q in omega (arith, s)
+    go (no w) rest = rest (omega arith)
+
 -- nothing but 0 away from one place
 pub total-one : (f : ℕ → ℕ) (p n : ℕ) → 1 ≤ p → p ≤ n → ((k : ℕ) → 1 ≤ k → k ≤ n → (k ≡ p → ⊥) → f k ≡ 0)
     → total f n ≡ f p

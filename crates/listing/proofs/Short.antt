@@ -191,8 +191,8 @@ body-short : (before : State) (frames : List (List ℕ)) → length frames ≤ 3
 unfolding bodyOf
 body-short before frames h =
     let l = lines-short before frames (length frames) (omega arith) h in
-    let m = last-short (countsOf frames) (let r = repaired-few frames (length frames) in omega arith)
-    (let b = breaks-few frames (length frames) in omega arith) in
+    let m = last-short (countsOf before frames) (let r = repaired-few before frames (length frames) in omega arith)
+    (let b = breaks-few before frames (length frames) in omega arith) in
     simp length-append (omega arith)
 
 pub listing-fits : ListingFits

@@ -55,7 +55,7 @@ linesTo before frames (suc k) = linesTo before frames k ++ frameOf (suc k) (fram
 
 -- after the first line: the lines of all frames, and their counts
 unfoldable pub bodyOf : State → List (List ℕ) → List ℕ
-bodyOf before frames = linesTo before frames (length frames) ++ lastOf (countsOf frames)
+bodyOf before frames = linesTo before frames (length frames) ++ lastOf (countsOf before frames)
 
 -- a sound recording: the first line, and then the frames, from a fresh state on
 unfoldable pub soundText : Walk → List (List ℕ) → List ℕ

@@ -15,6 +15,7 @@ use Rattle.laws.specs.Table.{both}
 use Rattle.frame.specs.Answers.{readingOf, correctionNumber}
 use Rattle.frame.specs.declared.Reading.{Reading}
 use Rattle.values.specs.Values.{nothingHeard}
+use Rattle.values.specs.declared.LastSy.{LastSy}
 use Rattle.values.specs.declared.State.{State}
 use Rattle.values.specs.declared.Values.{Values}
 use Rattle.blocks.specs.Blocks.{part}
@@ -32,7 +33,7 @@ use Rattle.blocks.proofs.Blocks.{nothing-left}
 use Rattle.blocks.proofs.Voices.{broken-no-voice}
 use Rattle.blocks.proofs.Walks.{sound-short}
 use Rattle.blocks.proofs.Frames.{no-voice, found-within, frames-none, frames-more, frames-refused, frames-sound}
-use Rattle.passes.specs.Counted.{countingOf, counting, countsTo}
+use Rattle.passes.specs.Counted.{breaksAt, countingOf, counting, frameAt, lastBefore, countsTo}
 use Rattle.passes.specs.Pass.{hearingOf, noHearing, stateThrough, begunAt, startOf}
 use Rattle.passes.specs.Pass.{aheadOf, pastFrame, stepBy, nextOf}
 use Rattle.passes.specs.declared.Counts.{Counts}
@@ -40,7 +41,7 @@ use Rattle.passes.specs.declared.Hearing.{Hearing}
 use Rattle.passes.specs.declared.Pass.{Pass}
 use Rattle.passes.specs.declared.Step.{Step}
 use Rattle.passes.proofs.Counting.{counts-none, counts-more, repaired-few, breaks-few}
-use Rattle.passes.proofs.Hearings.{through-none, through-next}
+use Rattle.passes.proofs.Hearings.{through-none, through-next, through-last}
 
 -- ---- the returns
 
@@ -139,13 +140,13 @@ module _ (s : List ℕ) (p : Pass) where
           }
 
 -- of `steps::past`
-pub past-frame : (p : Pass) (h : Hearing) (end left : ℕ) {number : ℕ} {c : Counts}
-    → number ≡ correctionNumber (h .reading)
-    → c ≡ countingOf (p .counts) (p .frames + 1) number (h .reading .indices .sy)
+pub past-frame : (p : Pass) (h : Hearing) (end left : ℕ) {number at : ℕ} {c : Counts}
+    → number ≡ correctionNumber (h .reading) → at ≡ breaksAt (p .state .last)
+    → c ≡ countingOf (p .counts) number (h .reading .indices .sy) at
     → record { at = end; left = left; frames = p .frames + 1; counts = c; state = h .values .state }
     ≡ pastFrame p h end left
-past-frame p h end left is e =
-    let f = ap (λ (n : ℕ). countingOf (p .counts) (p .frames + 1) n (h .reading .indices .sy)) is in
+past-frame p h end left is then e =
+    let f = ap₂ (λ (n at : ℕ). countingOf (p .counts) n (h .reading .indices .sy) at) is then in
     λ i. record { at = end; left = left; frames = p .frames + 1; counts = (e ∙ f) i; state = h .values .state }
 
 -- of `steps::stay`
@@ -241,7 +242,7 @@ left-none d xs k e = go (decLt k (length xs))
 pub record Passing (before : State) (s : List ℕ) (p : Pass) : Type 0 where
   pub rest : framesFrom s (p .at) (p .left) ≡ drop (p .frames) (framesOf s)
   pub most : p .frames ≤ length (framesOf s)
-  pub counts : p .counts ≡ countsTo (framesOf s) (p .frames)
+  pub counts : p .counts ≡ countsTo before (framesOf s) (p .frames)
   pub state : p .state ≡ stateThrough before (take (p .frames) (framesOf s))
 
 -- a pass that is just started
@@ -254,7 +255,7 @@ passing-start before s = go (walkedOf s .ending) refl
         record {
           rest = e;
           most = omega arith;
-          counts = counts-none (framesOf s);
+          counts = counts-none before (framesOf s);
           state =
               through-none before (framesOf s);
         }
@@ -280,8 +281,8 @@ module _ (before : State) (s : List ℕ) (p : Pass) (q : Passing before s p) whe
   ours =
       let m = frames-most s in
       let n = q .most in
-      let r : p .counts .repaired ≤ p .frames = rw (q .counts) (repaired-few (framesOf s) (p .frames)) in
-      let b : p .counts .breaks ≤ p .frames = rw (q .counts) (breaks-few (framesOf s) (p .frames)) in
+      let r : p .counts .repaired ≤ p .frames = rw (q .counts) (repaired-few before (framesOf s) (p .frames)) in
+      let b : p .counts .breaks ≤ p .frames = rw (q .counts) (breaks-few before (framesOf s) (p .frames)) in
       ahead-found s p (omega arith) r b
 
   stepped : (f : Found) → foundAt s (p .at) (p .left) ≡ f → Stepping before s p (stepBy s p f)
@@ -305,13 +306,18 @@ module _ (before : State) (s : List ℕ) (p : Pass) (q : Passing before s p) whe
       most′ : p .frames + 1 ≤ length (framesOf s)
       most′ = omega (arith, l .0)
 
-      counts′ : counting (p .counts) (p .frames + 1) (hearingOf (p .state) (part s first 18) .reading)
-          ≡ countsTo (framesOf s) (p .frames + 1)
+      last : p .state .last ≡ lastBefore before (framesOf s) (p .frames + 1)
+      last = ap (λ (t : State). t .last) (q .state) ∙ through-last before (framesOf s) (p .frames) (q .most)
+
+      counts′ : counting (p .counts) (p .state .last) (hearingOf (p .state) (part s first 18) .reading)
+          ≡ countsTo before (framesOf s) (p .frames + 1)
       counts′ =
           let n : p .frames + 1 - 1 ≡ p .frames = omega arith in
-          ap₂ (λ (c : Counts) (f : List ℕ). counting c (p .frames + 1) (readingOf f)) (q .counts)
+          ap₂ (λ (c : Counts) (f : List ℕ). counting c (p .state .last) (readingOf f)) (q .counts)
           (l .1 ∙ ap (λ (k : ℕ). getD (framesOf s) k []) (sym n))
-          ∙ counts-more (framesOf s) (p .frames)
+          ∙ ap (λ (t : LastSy). counting (countsTo before (framesOf s) (p .frames)) t
+          (readingOf (frameAt (framesOf s) (p .frames + 1)))) last
+          ∙ counts-more before (framesOf s) (p .frames)
 
       state′ : hearingOf (p .state) (part s first 18) .values .state
           ≡ stateThrough before (take (p .frames + 1) (framesOf s))

@@ -64,8 +64,8 @@ module _ {before : State} {s : List ℕ} {p : Pass} (q : Passing before s p) {t 
       go (ended e h n) = n
 
   -- then all are counted
-  pub all-counted : t .pass .frames ≡ p .frames → p .counts ≡ countsOf (framesOf s)
-  all-counted w = q .counts ∙ ap (countsTo (framesOf s)) (step-ended w)
+  pub all-counted : t .pass .frames ≡ p .frames → p .counts ≡ countsOf before (framesOf s)
+  all-counted w = q .counts ∙ ap (countsTo before (framesOf s)) (step-ended w)
 
 -- a pass that was started is on its way
 pub on-its-way : (before : State) (s : List ℕ) {p : Pass} → p ≡ startOf before s → Passing before s p
@@ -156,8 +156,8 @@ module _ (before : State) (s : List ℕ) (k : ℕ) where
 
   -- after k steps the first k frames are counted, and the state went through them
   module _ (h : k ≤ length (framesOf s)) where
-    pub pass-counts : passAt before s k .counts ≡ countsTo (framesOf s) k
-    pass-counts = let a = pass-after before s k in a .passing .counts ∙ ap (countsTo (framesOf s)) (a .some h)
+    pub pass-counts : passAt before s k .counts ≡ countsTo before (framesOf s) k
+    pass-counts = let a = pass-after before s k in a .passing .counts ∙ ap (countsTo before (framesOf s)) (a .some h)
 
     pub pass-state : passAt before s k .state ≡ stateThrough before (take k (framesOf s))
     pass-state =
@@ -165,8 +165,8 @@ module _ (before : State) (s : List ℕ) (k : ℕ) where
         a .passing .state ∙ ap (λ (n : ℕ). stateThrough before (take n (framesOf s))) (a .some h)
 
   -- after as many steps as there are bytes all frames are counted
-  pub pass-all : length (framesOf s) ≤ k → passAt before s k .counts ≡ countsOf (framesOf s)
-  pass-all h = let a = pass-after before s k in a .passing .counts ∙ ap (countsTo (framesOf s)) (a .all h)
+  pub pass-all : length (framesOf s) ≤ k → passAt before s k .counts ≡ countsOf before (framesOf s)
+  pass-all h = let a = pass-after before s k in a .passing .counts ∙ ap (countsTo before (framesOf s)) (a .all h)
 
 -- ---- a loop of k steps
 

@@ -29,7 +29,7 @@ hearingOf before f = record { reading = readingOf f; values = valuesOf (readingO
 unfoldable pub noHearing : State → Hearing
 noHearing before = record { reading = readingOf []; values = nothingHeard before }
 
--- LSP averaging runs on across voice blocks: the state after frames, one after the other
+-- LSP averaging runs on across voice blocks, and so does the last SY: the state after frames, one after the other
 unfoldable pub stateThrough : State → List (List ℕ) → State
 stateThrough before [] = before
 stateThrough before (f ∷ fs) = stateThrough (hearingOf before f .values .state) fs
@@ -77,7 +77,7 @@ pastFrame p h end left =
       at = end;
       left = left;
       frames = p .frames + 1;
-      counts = counting (p .counts) (p .frames + 1) (h .reading);
+      counts = counting (p .counts) (p .state .last) (h .reading);
       state = h .values .state;
     }
 

@@ -1,11 +1,11 @@
--- Every statement under the three demands, of the salvage tool and of the tally book has its proof.
+-- Every statement under the three demands, of the salvage tool, of the tally book and of sync breaks has its proof.
 -- Assumes nothing.
 use Rattle.listing.proofs.Laws as listing
 use Rattle.listing.proofs.Short as short
 use Rattle.salvage.proofs.Laws as salvage
 use Rattle.changes.proofs.Laws as changes
 use Rattle.tally.proofs.Laws as tally
-use Rattle.promises.specs.Demands.{DemandOne, DemandTwo, DemandThree, SalvageTool, TallyBook}
+use Rattle.promises.specs.Demands.{DemandOne, DemandTwo, DemandThree, SalvageTool, TallyBook, SyncBreaks}
 use Rattle.promises.proofs.Frames as frames
 use Rattle.promises.proofs.Functions as functions
 use Rattle.promises.proofs.Worked as worked
@@ -18,6 +18,7 @@ use Rattle.promises.proofs.Rule as rule
 use Rattle.promises.proofs.Made as made
 use Rattle.promises.proofs.Parts as parts
 use Rattle.promises.proofs.Running as running
+use Rattle.promises.proofs.Breaks as breaks
 use Rattle.promises.proofs.Tally as salvaged
 
 pub demand-one : DemandOne
@@ -44,6 +45,7 @@ demand-one =
       write-result-numbers = numbers.write-result-numbers;
       refused-frame-stays = refused.refused-frame-stays;
       refused-state-stays = refused.refused-state-stays;
+      expansion-keeps-sync = refused.expansion-keeps-sync;
       nothing-stays = refused.nothing-stays;
       refused-code-stays = refused.refused-code-stays;
       refused-read-stays = refused.refused-read-stays;
@@ -90,6 +92,7 @@ demand-two =
       averaged = values.averaged;
       first-averaged = values.first-averaged;
       fresh-not-begun = values.fresh-not-begun;
+      fresh-has-no-sync = values.fresh-has-no-sync;
       state-holds = values.state-holds;
       ternary = values.ternary;
       codes-overlap = values.codes-overlap;
@@ -163,4 +166,16 @@ tally-book =
       salvaged-same-key = salvaged.salvaged-same-key;
       either-order = tally.either-order;
       any-order = tally.any-order;
+    }
+
+pub sync-breaks : SyncBreaks
+sync-breaks =
+    record {
+      break-exactly = breaks.break-exactly;
+      sync-runs-on = breaks.sync-runs-on;
+      one-lost = breaks.one-lost;
+      first-lost = breaks.first-lost;
+      last-lost = breaks.last-lost;
+      two-lost = breaks.two-lost;
+      many-lost = breaks.many-lost;
     }

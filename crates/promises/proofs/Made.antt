@@ -3,6 +3,7 @@
 use mathlib.Core.Path.{_≡_, _∙_, sym, ap, ap₂, subst}
 use mathlib.Core.List.{List}
 use Prim.Native.Nat.{ℕ}
+use Rattle.values.specs.Values.{freshState}
 use Rattle.blocks.specs.Frames.{payloadsOf, framesIn, framesOf}
 use Rattle.blocks.specs.Made.{MadeFrom}
 use Rattle.blocks.specs.declared.Heading.{Heading}
@@ -22,7 +23,7 @@ unfolding framesOf
 made-is-sound s heading ps m =
     let e = made-is-walked s heading ps m in (
       walked-judged s Sound (ap (λ (w : Walked). w .ending) (e .0))
-          ∙ ap₂ (λ (w : Walk) (fs : List (List ℕ)). Judged.Sound (summaryOf w (countsOf fs)))
+          ∙ ap₂ (λ (w : Walk) (fs : List (List ℕ)). Judged.Sound (summaryOf w (countsOf freshState fs)))
           (ap (λ (w : Walked). w .walk) (e .0))
           (ap framesIn (e .1)),
       e .1,

@@ -43,18 +43,20 @@ use Rattle.frame.specs.declared.Verdict.the-variants as Verdict
 use Rattle.frame.specs.declared.Written.{Written}
 use Rattle.frame.specs.declared.Written.the-variants as Written
 use Rattle.frame.proofs.Answered.{read-eighteen, read-refused, wrong-length, too-large, falling, expansion, accepted}
+use Rattle.values.specs.Values.{syncState, valuesOf}
+use Rattle.values.specs.declared.State.{State}
 use Rattle.values.specs.Outcome.{outcomeOf}
 use Rattle.values.specs.Outcome as outcome
 use Rattle.values.specs.declared.Outcome.{Outcome}
 use Rattle.values.specs.declared.Outcome.the-variants.{Heard, TooLarge, Expansion, Nothing}
 use Rattle.values.proofs.Laws.{by-outcome, outcome-too-large, outcome-expansion, outcome-heard, values-outcome}
-use Rattle.values.proofs.Laws.{refused-state}
+use Rattle.values.proofs.Laws.{state-by}
 use Rattle.values.proofs.Laws.{nothing-outcome, nothing-state, bits-are-widths}
 use Rattle.pairs.specs.Pairs.{recordIn}
 use Rattle.gateway.specs.Results.{refused, readAnswer, readResult, readInto, recordLeft, writeResult, frameLeftBy}
 use Rattle.promises.specs.Refused.{ReaderRefuses, LowestTooLarge, Ordered, LowestFall, WriterGives, WriterRefuses}
 use Rattle.promises.specs.Refused.{RefusedFrameStays, RefusedReadStays, RefusedWriteStays}
-use Rattle.promises.specs.Refused.{HearingGives, HearingRefuses, RefusedStateStays, NothingStays}
+use Rattle.promises.specs.Refused.{HearingGives, HearingRefuses, RefusedStateStays, SyncAlone, ExpansionKeepsSync, NothingStays}
 use Rattle.promises.specs.Refused.{AllWithin, LowestOver, HertzGives, HertzRefuses}
 use Rattle.promises.specs.Refused.{FirstTooLarge, first-large, second-large, third-large, fourth-large}
 use Rattle.promises.specs.Refused.{Means, MeaningGives, MeaningRefuses, Listed, Follows}
@@ -185,7 +187,31 @@ hearing-refuses r before o = (
 
 pub refused-state-stays : RefusedStateStays
 unfolding RefusedStateStays
-refused-state-stays r before w = refused-state r before (λ e. w (ap outcome.refusalOf (values-outcome r before ∙ e)))
+refused-state-stays r before two = go (outcomeOf r) refl (ap outcome.refusalOf (sym (values-outcome r before)) ∙ two)
+  where
+    go : (o : Outcome) → outcomeOf r ≡ o → outcome.refusalOf o ≡ 2 → valuesOf r before .state ≡ before
+    go Heard e n = absurd (omega arith)
+    go (TooLarge f) e n = state-by r before e
+    go Expansion e n = absurd (omega arith)
+    go Nothing e n = absurd (omega arith)
+
+pub expansion-keeps-sync : ExpansionKeepsSync
+unfolding ExpansionKeepsSync
+expansion-keeps-sync r before six = go (outcomeOf r) refl (ap outcome.refusalOf (sym (values-outcome r before)) ∙ six)
+  where
+    alone : {after : State} → after ≡ syncState before (r .sy) → SyncAlone before after (r .sy)
+    alone e =
+        record {
+          begun = ap (λ (t : State). t .begun) e;
+          hz = ap (λ (t : State). t .hz) e;
+          last = ap (λ (t : State). t .last) e;
+        }
+
+    go : (o : Outcome) → outcomeOf r ≡ o → outcome.refusalOf o ≡ 6 → SyncAlone before (valuesOf r before .state) (r .sy)
+    go Heard e n = absurd (omega arith)
+    go (TooLarge f) e n = absurd (omega arith)
+    go Expansion e n = alone (state-by r before e)
+    go Nothing e n = absurd (omega arith)
 
 pub nothing-stays : NothingStays
 unfolding NothingStays

@@ -19,6 +19,7 @@ use Rattle.blocks.specs.Walk.{longest, refuse, pastHead, pastVoice, endingAt, m
 use Rattle.blocks.specs.Walk.{walkedOf}
 use Rattle.blocks.specs.Frames.{framesOf}
 use Rattle.blocks.specs.Refusals.{refusalOf}
+use Rattle.values.specs.Values.{freshState}
 use Rattle.passes.specs.Counted.{countsOf}
 use Rattle.recording.specs.Judged.{summaryOf, judgedBy, judgedOf}
 use Rattle.promises.specs.Rule.{knownKind, inTurn, Condition, order, tried, NumbersInTurn, NoneMet}
@@ -487,27 +488,27 @@ pub judged-refused : (s : List ℕ) (c : Cause) → judgedOf s ≡ Judged.Refuse
 unfolding judgedOf
 judged-refused s c e = go (walkedOf s .ending) e
   where
-    go : (x : Ending) → judgedBy x (summaryOf (walkedOf s .walk) (countsOf (framesOf s))) ≡ Judged.Refused c
+    go : (x : Ending) → judgedBy x (summaryOf (walkedOf s .walk) (countsOf freshState (framesOf s))) ≡ Judged.Refused c
         → x ≡ Refused c
     go Sound e = absurd (let z : _≡_ {A = ℕ} 0 1 = cc in omega arith)
     go (Refused d) e = let y : d ≡ c = cc in ap Refused y
 
 -- sound, with what was passed and the counts
 pub judged-sound : (s : List ℕ) (x : Summary) → judgedOf s ≡ Judged.Sound x
-    → (walkedOf s .ending ≡ Sound) × (x ≡ summaryOf (walkedOf s .walk) (countsOf (framesOf s)))
+    → (walkedOf s .ending ≡ Sound) × (x ≡ summaryOf (walkedOf s .walk) (countsOf freshState (framesOf s)))
 unfolding judgedOf
 judged-sound s x e = go (walkedOf s .ending) e
   where
-    go : (y : Ending) → judgedBy y (summaryOf (walkedOf s .walk) (countsOf (framesOf s))) ≡ Judged.Sound x
-        → (y ≡ Sound) × (x ≡ summaryOf (walkedOf s .walk) (countsOf (framesOf s)))
+    go : (y : Ending) → judgedBy y (summaryOf (walkedOf s .walk) (countsOf freshState (framesOf s))) ≡ Judged.Sound x
+        → (y ≡ Sound) × (x ≡ summaryOf (walkedOf s .walk) (countsOf freshState (framesOf s)))
     go Sound e = (refl, cc)
     go (Refused d) e = absurd (let z : _≡_ {A = ℕ} 0 1 = cc in omega arith)
 
 -- and the other way
 pub walked-judged : (s : List ℕ) (x : Ending) → walkedOf s .ending ≡ x
-    → judgedOf s ≡ judgedBy x (summaryOf (walkedOf s .walk) (countsOf (framesOf s)))
+    → judgedOf s ≡ judgedBy x (summaryOf (walkedOf s .walk) (countsOf freshState (framesOf s)))
 unfolding judgedOf
-walked-judged s x e = ap (λ (y : Ending). judgedBy y (summaryOf (walkedOf s .walk) (countsOf (framesOf s)))) e
+walked-judged s x e = ap (λ (y : Ending). judgedBy y (summaryOf (walkedOf s .walk) (countsOf freshState (framesOf s)))) e
 
 pub refused-exactly : RefusedExactly
 refused-exactly s c =

@@ -21,18 +21,18 @@ use Rattle.draws.specs.Draw.{drawOf}
 use Rattle.codebook.proofs.Laws.{length-book, element-ternary, length-code, code-ternary, one-of-three, overlap}
 use Rattle.draws.proofs.Laws.{wrapped-congruent, sum-only, position-range}
 use Rattle.values.specs.Outcome.{outcomeOf}
-use Rattle.values.specs.Values.{cgIndex, pgIndex, valuesOf}
+use Rattle.values.specs.Values.{cgIndex, pgIndex, freshState, valuesOf}
 use Rattle.values.specs.declared.State.{State}
 use Rattle.values.specs.declared.Outcome.the-variants.{Heard}
 use Rattle.values.proofs.Laws.{heard-fits, values-outcome, cg-index-small, pg-index-small, cg-given, pg-given, lsp-fits}
 use Rattle.values.proofs.Laws.{present-at}
 use Rattle.values.proofs.Laws.{heard-delays, delays-four, delays-meant, heard-mark, later-averages, first-averages}
-use Rattle.values.proofs.Laws.{heard-begun, heard-hz}
+use Rattle.values.proofs.Laws.{state-by}
 use Rattle.values.proofs.Laws as values
 use Rattle.promises.specs.Values.{NearestEntry, GainsComeBack, CgMirrored, Subframe, GainsHeard}
 use Rattle.promises.specs.Values.{DelaysRise, EachByteOnce, DelaysComeBack, FixedWindows, DelaysHeard}
 use Rattle.promises.specs.Values.{LspsHeard, MarkHeard, MarkIsLowest, Averaged, FirstAveraged, FreshNotBegun}
-use Rattle.promises.specs.Values.{StateHolds}
+use Rattle.promises.specs.Values.{FreshHasNoSync, StateHolds}
 use Rattle.promises.specs.Values.{Ternary, CodesOverlap, DrawsWrap, DrawsAtPositions}
 
 pub nearest-entry : NearestEntry
@@ -122,10 +122,19 @@ pub fresh-not-begun : FreshNotBegun
 unfolding FreshNotBegun
 fresh-not-begun = values.fresh-not-begun
 
+pub fresh-has-no-sync : FreshHasNoSync
+unfolding FreshHasNoSync freshState
+fresh-has-no-sync = refl
+
 pub state-holds : StateHolds
 unfolding StateHolds
 state-holds r before told =
-    record { begun = heard-begun r before (heard r before told); hz = heard-hz r before (heard r before told) }
+    let e = state-by r before (heard r before told) in
+    record {
+      begun = ap (λ (t : State). t .begun) e;
+      hz = ap (λ (t : State). t .hz) e;
+      last = ap (λ (t : State). t .last) e;
+    }
 
 pub mark-is-lowest : MarkIsLowest
 unfolding MarkIsLowest

@@ -1,5 +1,5 @@
 -- The three demands, in the words of the person this is built for, and under each the statements that meet it; then
--- what is promised of the salvage tool and of the tally book. A reviewer starts here:
+-- what is promised of the salvage tool, of the tally book and of sync breaks. A reviewer starts here:
 -- each name below is a statement of the file beside it, and proofs/Demands.antt holds a proof of every one.
 use Rattle.listing.specs.Promised.{ListingFits, ListingStands, FaultsListed, RefusedListingStays}
 use Rattle.salvage.specs.Promised.{SalvageRefuses, SalvageStands, SalvagedAccepted, KeptUpToRefusal, SoundUnchanged}
@@ -11,15 +11,15 @@ use Rattle.promises.specs.Frames.{ReadsBack, SameBits, DamageAlone, OneM
 use Rattle.promises.specs.Frames.{OneFrame, SixteenFrames}
 use Rattle.promises.specs.Functions.{WriteThenRead, ReadThenWrite, RepairByDamage, OneFlip, TwoFlips, NoTwoFrames}
 use Rattle.promises.specs.Refused.{ReaderRefuses, WriterRefuses, RefusedFrameStays, RefusedReadStays}
-use Rattle.promises.specs.Refused.{RefusedWriteStays, HearingRefuses, RefusedStateStays, NothingStays}
-use Rattle.promises.specs.Refused.{HertzRefuses, MeaningRefuses, DelaysRefuse, CodeRefuses, RefusedCodeStays}
+use Rattle.promises.specs.Refused.{RefusedWriteStays, HearingRefuses, RefusedStateStays, ExpansionKeepsSync}
+use Rattle.promises.specs.Refused.{NothingStays, HertzRefuses, MeaningRefuses, DelaysRefuse, CodeRefuses, RefusedCodeStays}
 use Rattle.promises.specs.Repairs.{CleanChangesNothing, ParityHitChangesNothing, DataHitInvertsOne}
 use Rattle.promises.specs.Repairs.{TwoNeverMended, UnguardedUnseen, ThreeUnseen, FifteenPlaces}
 use Rattle.promises.specs.Boundary.{PairsHoldRecord, ReadTells, WriteTells, BoundaryReadsBack}
 use Rattle.promises.specs.Values.{NearestEntry, GainsComeBack, CgMirrored, GainsHeard, DelaysRise, EachByteOnce}
 use Rattle.promises.specs.Values.{DelaysComeBack, FixedWindows, DelaysHeard, LspsHeard, MarkHeard, MarkIsLowest}
-use Rattle.promises.specs.Values.{Averaged, FirstAveraged, FreshNotBegun, StateHolds, Ternary, CodesOverlap}
-use Rattle.promises.specs.Values.{DrawsWrap, DrawsAtPositions}
+use Rattle.promises.specs.Values.{Averaged, FirstAveraged, FreshNotBegun, FreshHasNoSync, StateHolds, Ternary}
+use Rattle.promises.specs.Values.{CodesOverlap, DrawsWrap, DrawsAtPositions}
 use Rattle.promises.specs.RefusalNumbers.{ReaderNumbers, WriterNumbers, HearingNumbers, DelayNumbers, CodeNumbers}
 use Rattle.promises.specs.RefusalNumbers.{GainNumbers, RecordingNumbers, ReadResultNumbers, WriteResultNumbers}
 use Rattle.promises.specs.RefusalNumbers.{HertzNumbers, MeaningNumbers}
@@ -27,6 +27,7 @@ use Rattle.promises.specs.Rule.{NumbersInTurn, BlockFaultsTold, RefusedE
 use Rattle.promises.specs.Made.{MadeIsSound, SoundIsMade, NoTwo}
 use Rattle.promises.specs.Parts.{VoiceBlocksStand, NoSuchBlock, FramesAreAll, FramesAreLong, FramesFit, EndCounts}
 use Rattle.promises.specs.Parts.{RepairsCounted, BreaksCounted, RefusedHasNone, EmptyRefused}
+use Rattle.promises.specs.Breaks.{BreakExactly, SyncRunsOn, OneLost, FirstLost, LastLost, TwoLost, ManyLost}
 use Rattle.promises.specs.Running.{StateRunsOn, NothingBeyond, PassHears, PassCounts, SoFarAlone}
 use Rattle.promises.specs.Worked.{AllTwelve}
 use Rattle.promises.specs.Tally.{SalvagedSameKey}
@@ -61,9 +62,10 @@ pub record DemandOne : Type 0 where
   pub recording-numbers : RecordingNumbers
   pub read-result-numbers : ReadResultNumbers
   pub write-result-numbers : WriteResultNumbers
-  -- nothing is written, and the state stays
+  -- nothing is written, and the state stays, but for the SY of a record refused with 6
   pub refused-frame-stays : RefusedFrameStays
   pub refused-state-stays : RefusedStateStays
+  pub expansion-keeps-sync : ExpansionKeepsSync
   pub nothing-stays : NothingStays
   pub refused-code-stays : RefusedCodeStays
   pub refused-read-stays : RefusedReadStays
@@ -115,6 +117,7 @@ pub record DemandTwo : Type 0 where
   pub averaged : Averaged
   pub first-averaged : FirstAveraged
   pub fresh-not-begun : FreshNotBegun
+  pub fresh-has-no-sync : FreshHasNoSync
   pub state-holds : StateHolds
   pub ternary : Ternary
   pub codes-overlap : CodesOverlap
@@ -208,3 +211,19 @@ pub record TallyBook : Type 0 where
   -- in any order
   pub either-order : EitherOrder
   pub any-order : AnyOrder
+
+-- Document 02, K4: "A break is [..] a frame whose SY equals that of the frame before it, or a first frame whose SY is 1.
+-- The running state keeps the last SY, and a fresh state says there was none. [..] A frame refused with 6 also updates
+-- the last SY, and that only".
+--
+-- What becomes of the state stands under demand 1 for a refusal and under demand 2 for a record that is heard, and there
+-- too that the listing's last number is the count of breaks.
+pub record SyncBreaks : Type 0 where
+  pub break-exactly : BreakExactly
+  pub sync-runs-on : SyncRunsOn
+  -- "One lost frame is one break"
+  pub one-lost : OneLost
+  pub first-lost : FirstLost
+  pub last-lost : LastLost
+  pub two-lost : TwoLost
+  pub many-lost : ManyLost

@@ -3,6 +3,7 @@ use mathlib.Core.Path.{_≡_}
 use mathlib.Core.List.{List}
 use Prim.Native.Nat.{ℕ}
 use lib.ListN.{length}
+use Rattle.values.specs.Values.{freshState}
 use Rattle.blocks.specs.Frames.{payloadsOf, framesIn}
 use Rattle.blocks.specs.Made.{MadeFrom, Bytes}
 use Rattle.blocks.specs.declared.Heading.{Heading}
@@ -13,7 +14,7 @@ use Rattle.recording.specs.declared.Judged.the-variants.{Sound}
 
 -- what is said of a recording made so
 abbrev pub madeSummary : Heading → List (List ℕ) → Summary
-madeSummary heading ps = record { heading = heading; frames = length (framesIn ps); counts = countsOf (framesIn ps) }
+madeSummary heading ps = record { heading = heading; frames = length (framesIn ps); counts = countsOf freshState (framesIn ps) }
 
 -- bytes made so are sound, and the answer is just what they were made from
 abbrev pub MadeIsSound : Type 0

@@ -6,11 +6,12 @@ use Prim.Native.Nat.{ℕ, suc, _+_, _*_, _%_, _<_, _≤_}
 use lib.ListN.{length, getD, take}
 use Rattle.laws.specs.Total.{total}
 use Rattle.frame.specs.Answers.{readingOf}
+use Rattle.values.specs.Values.{freshState}
 use Rattle.blocks.specs.Blocks.{part}
 use Rattle.blocks.specs.Walk.{afterHead}
 use Rattle.blocks.specs.Frames.{nowhere, spanOf, payloadsOf, voiceBlockOf, eighteens, framesOf}
 use Rattle.blocks.specs.Made.{voiceBlocks}
-use Rattle.passes.specs.Counted.{repairBy, breakBy, frameAt}
+use Rattle.passes.specs.Counted.{repairBy, frameAt, breakAt}
 use Rattle.recording.specs.Judged.{judgedOf}
 use Rattle.blocks.specs.declared.Cause.{Cause}
 use Rattle.blocks.specs.declared.Cause.the-variants.{EndMissing}
@@ -58,7 +59,8 @@ FramesFit = (s : List ℕ) → 18 * length (framesOf s) ≤ length s
 abbrev pub EndCounts : Type 0
 EndCounts = (s : List ℕ) (x : Summary) → judgedOf s ≡ Sound x → x .frames ≡ length (framesOf s)
 
--- the counts are sums over all frame numbers, counted from 1: 1 for a repaired frame or for a break
+-- the counts are sums over all frame numbers, counted from 1: 1 for a repaired frame or for a break, from a fresh state
+-- on (Breaks.antt says what a break is)
 abbrev pub RepairsCounted : Type 0
 RepairsCounted =
     (s : List ℕ) (x : Summary) → judgedOf s ≡ Sound x
@@ -67,7 +69,7 @@ RepairsCounted =
 abbrev pub BreaksCounted : Type 0
 BreaksCounted =
     (s : List ℕ) (x : Summary) → judgedOf s ≡ Sound x
-    → x .counts .breaks ≡ total (λ n. breakBy n (readingOf (frameAt (framesOf s) n))) (length (framesOf s))
+    → x .counts .breaks ≡ total (breakAt freshState (framesOf s)) (length (framesOf s))
 
 -- a refused recording has no voice block, also none before the damage, and no frame
 abbrev pub RefusedHasNone : Type 0

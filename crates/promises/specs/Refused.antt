@@ -28,6 +28,7 @@ use Rattle.values.specs.Values.{nothingHeard, valuesOf}
 use Rattle.values.specs.Outcome as outcome
 use Rattle.values.specs.declared.Outcome.{Outcome}
 use Rattle.values.specs.declared.Outcome.the-variants.{Heard, TooLarge, Expansion, Nothing}
+use Rattle.values.specs.declared.LastSy.the-variants.{Was}
 use Rattle.values.specs.declared.State.{State}
 use Rattle.gateway.specs.Results.{readResult, recordLeft, writeResult, frameLeftBy}
 
@@ -69,7 +70,7 @@ WriterRefuses = (r : Record) (n : ℕ) (a : Written) → (writtenOf r n ≡ a) �
 unfoldable pub RefusedFrameStays : Type 0
 RefusedFrameStays = (r : Record) (s : List ℕ) → (refusalOf (writtenOf r (length s)) ≡ 0 → ⊥) → frameLeft r s ≡ s
 
--- a record to hear, after any state: 2, then 6; a refused record leaves the state as it came
+-- a record to hear, after any state: 2, then 6
 abbrev pub HearingGives : Record → Outcome → Type 0
 HearingGives r (TooLarge f) = LowestTooLarge r f
 HearingGives r Expansion = AllFit r × (r .sp ≡ 1)
@@ -79,10 +80,22 @@ HearingGives r Nothing = ⊥
 unfoldable pub HearingRefuses : Type 0
 HearingRefuses = (r : Record) (before : State) (o : Outcome) → (valuesOf r before .outcome ≡ o) ↔ HearingGives r o
 
+-- "A refused record leaves the state as it came", which document 02, K4, amends for 6
 unfoldable pub RefusedStateStays : Type 0
 RefusedStateStays =
-    (r : Record) (before : State) → (outcome.refusalOf (valuesOf r before .outcome) ≡ 0 → ⊥) → valuesOf r before .state
+    (r : Record) (before : State) → outcome.refusalOf (valuesOf r before .outcome) ≡ 2 → valuesOf r before .state
     ≡ before
+
+-- "also updates the last SY, and that only"
+pub record SyncAlone (before after : State) (sy : ℕ) : Type 0 where
+  pub begun : after .begun ≡ before .begun
+  pub hz : after .hz ≡ before .hz
+  pub last : after .last ≡ Was sy
+
+unfoldable pub ExpansionKeepsSync : Type 0
+ExpansionKeepsSync =
+    (r : Record) (before : State) → outcome.refusalOf (valuesOf r before .outcome) ≡ 6
+    → SyncAlone before (valuesOf r before .state) (r .sy)
 
 -- where there is no record the state is as it came, too
 unfoldable pub NothingStays : Type 0

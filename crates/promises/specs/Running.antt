@@ -34,8 +34,8 @@ PassHears = (before : State) (s : List ℕ) (k : ℕ) → nextOf s (passAt befor
 abbrev pub PassCounts : Type 0
 PassCounts =
     (before : State) (s : List ℕ) (k : ℕ)
-    → (k ≤ length (framesOf s) → passAt before s k .counts ≡ countsTo (framesOf s) k)
-    × (length (framesOf s) ≤ k → passAt before s k .counts ≡ countsOf (framesOf s))
+    → (k ≤ length (framesOf s) → passAt before s k .counts ≡ countsTo before (framesOf s) k)
+    × (length (framesOf s) ≤ k → passAt before s k .counts ≡ countsOf before (framesOf s))
 
 -- two recordings with the same first k frames are heard alike up to there
 abbrev pub SoFarAlone : Type 0

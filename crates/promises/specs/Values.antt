@@ -24,6 +24,7 @@ use Rattle.codebook.specs.Code.{codeOf}
 use Rattle.draws.specs.Draw.{positionOf, wrapped, keptAt, drawOf}
 use Rattle.draws.specs.declared.Generator.{Generator}
 use Rattle.values.specs.Values.{cgIndex, pgIndex, pdIndex, presentOf, usedOf, freshState, valuesOf}
+use Rattle.values.specs.declared.LastSy.the-variants.{Never, Was}
 use Rattle.values.specs.declared.State.{State}
 use Rattle.values.specs.declared.Outcome.the-variants.{Heard}
 use Rattle.promises.specs.Refused.{AllFit}
@@ -116,13 +117,18 @@ FirstAveraged =
     (r : Record) (before : State) → valuesOf r before .outcome ≡ Heard → before .begun ≡ false
     → (n j : ℕ) → 1 ≤ n → n ≤ 4 → 1 ≤ j → j ≤ 10 → average r before n j ≡ 8 * lsp (usedOf r before) j
 
--- our fresh state is one of them; the state after a frame is not, and holds the LSPs that were used
+-- our fresh state is one of them, and "says there was none" of the last SY (document 02, K4); the state after a frame is
+-- not, and holds the LSPs that were used and the frame's SY
 unfoldable pub FreshNotBegun : Type 0
 FreshNotBegun = freshState .begun ≡ false
+
+unfoldable pub FreshHasNoSync : Type 0
+FreshHasNoSync = freshState .last ≡ Never
 
 pub record Kept (r : Record) (before : State) : Type 0 where
   pub begun : valuesOf r before .state .begun ≡ true
   pub hz : valuesOf r before .state .hz ≡ usedOf r before
+  pub last : valuesOf r before .state .last ≡ Was (r .sy)
 
 unfoldable pub StateHolds : Type 0
 StateHolds = (r : Record) (before : State) → valuesOf r before .outcome ≡ Heard → Kept r before

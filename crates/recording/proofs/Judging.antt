@@ -5,6 +5,7 @@ use mathlib.Core.List.{List, []}
 use Prim.Native.Nat.{ℕ, suc, _-_}
 use native.Mathlib.Omega.{arith}
 use lib.ListN.{length}
+use Rattle.values.specs.Values.{freshState}
 use Rattle.values.specs.declared.State.{State}
 use Rattle.blocks.specs.Walk.{walkedOf}
 use Rattle.blocks.specs.Frames.{framesOf}
@@ -14,7 +15,7 @@ use Rattle.blocks.specs.declared.Ending.the-variants as Ending
 use Rattle.blocks.specs.declared.Walk.{Walk}
 use Rattle.blocks.specs.declared.Walked.{Walked}
 use Rattle.passes.specs.Counted.{countsOf}
-use Rattle.passes.specs.Pass.{frameHeard, startOf, nextOf, passAt}
+use Rattle.passes.specs.Pass.{frameHeard, begunAt, startOf, nextOf, passAt}
 use Rattle.passes.specs.declared.Counts.{Counts}
 use Rattle.passes.specs.declared.Hearing.{Hearing}
 use Rattle.passes.specs.declared.Pass.{Pass}
@@ -60,26 +61,28 @@ module _ (before : State) (s : List ℕ) (k : ℕ) {h : Hearing} where
 -- ---- the return of `summarize`, and those of `judge`
 
 -- after as many steps as there are bytes the counts are those of all frames
-pub all-summed : (s : List ℕ) (w : Walk) (before : State) {q : Pass} → q ≡ passAt before s (length s)
-    → summaryOf w (q .counts) ≡ summaryOf w (countsOf (framesOf s))
-all-summed s w before is =
+pub all-summed : (s : List ℕ) (w : Walk) {at : ℕ} {fresh before : State} {p q : Pass} → fresh ≡ before
+    → p ≡ begunAt at fresh → q ≡ passAt (p .state) s (length s)
+    → summaryOf w (q .counts) ≡ summaryOf w (countsOf before (framesOf s))
+all-summed s w {fresh = fresh} {p = p} same begun is =
     ap (summaryOf w)
-    (ap (λ (x : Pass). x .counts) is ∙ pass-all before s (length s) (let f = frames-fit s in omega arith))
+    (ap (λ (x : Pass). x .counts) is ∙ pass-all (p .state) s (length s) (let f = frames-fit s in omega arith)
+    ∙ ap (λ (x : State). countsOf x (framesOf s)) (ap (λ (x : Pass). x .state) begun ∙ same))
 
 module _ (s : List ℕ) {w : Walked} (is : w ≡ walkedOf s) where
-  judged : (e : Ending) → w .ending ≡ e → {c : Counts} → c ≡ countsOf (framesOf s)
+  judged : (e : Ending) → w .ending ≡ e → {c : Counts} → c ≡ countsOf freshState (framesOf s)
       → judgedBy e (summaryOf (w .walk) c) ≡ judgedOf s
   unfolding judgedOf
   judged e ends {c} counted =
       ap (λ (x : Ending). judgedBy x (summaryOf (w .walk) c)) (sym ends)
       ∙ ap (λ (x : Counts). judgedBy (w .ending) (summaryOf (w .walk) x)) counted
-      ∙ ap (λ (x : Walked). judgedBy (x .ending) (summaryOf (x .walk) (countsOf (framesOf s)))) is
+      ∙ ap (λ (x : Walked). judgedBy (x .ending) (summaryOf (x .walk) (countsOf freshState (framesOf s)))) is
 
   -- a refused walk is judged so
   pub judge-refused : {cause : Cause} → w .ending ≡ Ending.Refused cause → Refused cause ≡ judgedOf s
   judge-refused {cause} ends = judged (Ending.Refused cause) ends refl
 
   -- a sound one is judged by its walk and the counts of its frames
-  pub judge-sound : w .ending ≡ Ending.Sound → {x : Summary} → x ≡ summaryOf (w .walk) (countsOf (framesOf s))
+  pub judge-sound : w .ending ≡ Ending.Sound → {x : Summary} → x ≡ summaryOf (w .walk) (countsOf freshState (framesOf s))
       → Sound x ≡ judgedOf s
   judge-sound ends counted = ap Sound counted ∙ judged Ending.Sound ends refl

@@ -1,6 +1,8 @@
--- What is said of a whole recording: sound, with its counts of repaired frames and sync breaks, or refused.
+-- What is said of a whole recording: sound, with its counts of repaired frames and sync breaks from a fresh state on, or
+-- refused.
 use mathlib.Core.List.{List, []}
 use Prim.Native.Nat.{ℕ}
+use Rattle.values.specs.Values.{freshState}
 use Rattle.blocks.specs.Refusals.{refusalOf, tellsOf}
 use Rattle.blocks.specs.Walk.{walkedOf}
 use Rattle.blocks.specs.Frames.{framesOf}
@@ -22,7 +24,7 @@ judgedBy Ending.Sound summary = Sound summary
 judgedBy (Ending.Refused cause) summary = Refused cause
 
 unfoldable pub judgedOf : List ℕ → Judged
-judgedOf s = judgedBy (walkedOf s .ending) (summaryOf (walkedOf s .walk) (countsOf (framesOf s)))
+judgedOf s = judgedBy (walkedOf s .ending) (summaryOf (walkedOf s .walk) (countsOf freshState (framesOf s)))
 
 -- the refusal of an answer and what it tells; 0 is no refusal
 abbrev pub judgedRefusal : Judged → ℕ

@@ -45,7 +45,7 @@ pub fn judge(s: &[u8]) -> Judged
 fn summarize(s: &[u8], walk: Walk) -> Summary
     requires { ⌜ walk ≡ walkedOf (now s) .walk ⌝ }
     requires { ⌜ walkedOf (now s) .ending ≡ Sound ⌝ }
-    ensures { λ r. ⌜ r ≡ summaryOf walk (countsOf (framesOf (now (s .entry)))) ⌝ }
+    ensures { λ r. ⌜ r ≡ summaryOf walk (countsOf freshState (framesOf (now (s .entry)))) ⌝ }
 {
     let end = pass_after(s, s.len(), passes::begin(walk, State::fresh()));
     let counts = end.counts;

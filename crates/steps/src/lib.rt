@@ -4,11 +4,12 @@ use passes::Counts;
 use passes::Hearing;
 use passes::Pass;
 use passes::Step;
+use values::LastSy;
 use values::Values;
 ghost use mathlib.Core.Path.{_≡_};
 ghost use Prim.Native.Nat.{_≤_};
 ghost use Rattle.blocks.specs.Walk.{longest};
-ghost use Rattle.passes.specs.Counted.{repairOf, breakOf, countingOf};
+ghost use Rattle.passes.specs.Counted.{repairOf, breaksAt, breakOf, countingOf};
 ghost use Rattle.passes.specs.Pass.{aheadOf, pastFrame, stepBy, nextOf};
 ghost use Rattle.blocks.specs.declared.Found.the-variants.{At, Nothing};
 
@@ -73,7 +74,10 @@ fn past(pass: Pass, hearing: Hearing, end: usize, left: usize) -> Pass
 {
     let frames = pass.frames + 1;
     let number = hearing.reading.correction_number();
-    let counts = counted(pass.counts, frames, number, hearing.reading.indices.sy);
+    let before = pass.state;
+    let last = before.last;
+    let at = breaks_at(last);
+    let counts = counted(pass.counts, number, hearing.reading.indices.sy, at);
     let state = hearing.values.state;
     Pass {
         at: end,
@@ -84,14 +88,24 @@ fn past(pass: Pass, hearing: Hearing, end: usize, left: usize) -> Pass
     }
 }
 
-// Counts with frame n counted too, by its correction number and its SY.
-fn counted(counts: Counts, n: u32, number: usize, sy: u16) -> Counts
+// The SY at which the next frame is a sync break: that of the frame before it, or 1 where there was none.
+fn breaks_at(last: LastSy) -> u16
+    ensures { λ r. ⌜ r ≡ breaksAt last ⌝ }
+{
+    match last {
+        LastSy::Never => 1,
+        LastSy::Was(sy) => sy,
+    }
+}
+
+// Counts with a frame counted too, by its correction number, its SY and the SY at which it is a break.
+fn counted(counts: Counts, number: usize, sy: u16, at: u16) -> Counts
     requires { ⌜ counts .repaired ≤ longest ⌝ }
     requires { ⌜ counts .breaks ≤ longest ⌝ }
-    ensures { λ r. ⌜ r ≡ countingOf counts n number sy ⌝ }
+    ensures { λ r. ⌜ r ≡ countingOf counts number sy at ⌝ }
 {
     let repaired = counts.repaired + repair_by(number);
-    let breaks = counts.breaks + break_by(n, sy);
+    let breaks = counts.breaks + break_by(sy, at);
     Counts { repaired, breaks }
 }
 
@@ -105,13 +119,12 @@ fn repair_by(number: usize) -> u32
     1
 }
 
-// 1 for a sync break at frame n, by its SY.
-fn break_by(n: u32, sy: u16) -> u32
-    ensures { λ r. ⌜ r ≡ breakOf n sy ⌝ }
+// 1 for a sync break, by its SY and the SY at which it is one.
+fn break_by(sy: u16, at: u16) -> u32
+    ensures { λ r. ⌜ r ≡ breakOf sy at ⌝ }
 {
-    let expected = 1 - n % 2;
-    if sy as u32 == expected {
-        return 0;
+    if sy == at {
+        return 1;
     }
-    1
+    0
 }

@@ -20,7 +20,7 @@ use Rattle.values.specs.declared.Outcome.{Outcome}
 use Rattle.values.specs.declared.Outcome.the-variants.{Heard, TooLarge, Expansion}
 use Rattle.values.specs.Outcome.{outcomeOf}
 use Rattle.values.specs.Values.{inSubframes, indicesAt, cgIndex, pgIndex, gainsOf, delaysOf, previousOf}
-use Rattle.values.specs.Values.{stateAfter}
+use Rattle.values.specs.Values.{heardState, syncState, stateAfter}
 use Rattle.values.specs.Values.{heardValues, refusedValues, valuesOf}
 use Rattle.values.proofs.Laws.{outcome-too-large, outcome-set, outcome-heard, too-large-not-heard}
 use Rattle.values.proofs.Laws.{expansion-not-heard}
@@ -50,7 +50,7 @@ module _ (r : Record) (before : State) where
       → cg ≡ gainsOf cgTable (inSubframes (cgIndex r)) → pg ≡ gainsOf pgTable (inSubframes (pgIndex r))
       → delays ≡ delaysOf r
       → hertz ≡ hertzOf (r .lsp) → previous ≡ previousOf before (hertz .hz) → averages ≡ averagesOf previous (hertz .hz)
-      → mark ≡ markOf (hertz .hz) → state ≡ stateAfter (hertz .hz)
+      → mark ≡ markOf (hertz .hz) → state ≡ heardState (hertz .hz) (r .sy)
       → _≡_ {A = Values}
       (record { outcome = Heard; cg = cg; pg = pg; delays = delays; averages = averages; mark = mark; state = state })
       (heardValues r before)
@@ -65,7 +65,7 @@ module _ (r : Record) (before : State) where
             (averages-are ∙ ap (λ (l : List ℕ). averagesOf l (hertz .hz)) previous-is
             ∙ ap (λ (h : Hertz). averagesOf (previousOf before (h .hz)) (h .hz)) hertz-is) i;
         mark = (mark-is ∙ ap (λ (h : Hertz). markOf (h .hz)) hertz-is) i;
-        state = (state-is ∙ ap (λ (h : Hertz). stateAfter (h .hz)) hertz-is) i;
+        state = (state-is ∙ ap (λ (h : Hertz). heardState (h .hz) (r .sy)) hertz-is) i;
       }
 
   -- what each refusal gets
@@ -74,16 +74,18 @@ module _ (r : Record) (before : State) where
       → v ≡ valuesOf r before
   field-told {field} is w e =
       let o : outcomeOf r ≡ TooLarge (tooLarge r) = outcome-too-large r (let n = w in omega arith) in
-      e ∙ ap (λ (f : ℕ). refusedValues (TooLarge f) before) is ∙ ap (λ (p : Outcome). refusedValues p before) (sym o)
+      e ∙ ap (λ (f : ℕ). refusedValues (TooLarge f) before) is
+      ∙ ap (λ (p : Outcome). refusedValues p (stateAfter p r before)) (sym o)
       ∙ sym (values-refused r before (λ h. too-large-not-heard _ (sym o ∙ h)))
 
-  -- a record whose SP is set gets refusal 6
-  pub expansion-told : {field : ℕ} {v : Values} → field ≡ tooLarge r → field ≡ 0 → (r .sp ≡ 0 → ⊥)
-      → v ≡ refusedValues Expansion before → v ≡ valuesOf r before
-  expansion-told is z w e =
+  -- a record whose SP is set gets refusal 6, and leaves its SY
+  pub expansion-told : {field : ℕ} {after : State} {v : Values} → field ≡ tooLarge r → field ≡ 0 → (r .sp ≡ 0 → ⊥)
+      → after ≡ syncState before (r .sy) → v ≡ refusedValues Expansion after → v ≡ valuesOf r before
+  expansion-told is z w left e =
       let o : outcomeOf r ≡ Expansion = outcome-set r (sym is ∙ z) w in
       e
-      ∙ ap (λ (p : Outcome). refusedValues p before) (sym o)
+      ∙ ap (refusedValues Expansion) left
+      ∙ ap (λ (p : Outcome). refusedValues p (stateAfter p r before)) (sym o)
       ∙ sym (values-refused r before (λ h. expansion-not-heard (sym o ∙ h)))
 
   -- and what is heard

@@ -31,6 +31,7 @@ use Rattle.lsp.specs.Table.{bits, lsp, column}
 use Rattle.lsp.specs.Order.{markOf}
 use Rattle.lsp.specs.Average.{averageAt, averagesOf}
 use Rattle.lsp.proofs.Laws.{all-fit, hertz-at, averages-at, averages-same}
+use Rattle.values.specs.declared.LastSy.the-variants.{Was}
 use Rattle.values.specs.declared.State.{State}
 use Rattle.values.specs.declared.Values.{Values}
 use Rattle.values.specs.declared.Outcome.{Outcome}
@@ -138,16 +139,11 @@ not-heard (TooLarge f) w = refl
 not-heard Expansion w = refl
 not-heard Nothing w = refl
 
-module _ (r : Record) (before : State) (refused : outcomeOf r ≡ Heard → ⊥) where
-  -- a refused record has none
-  pub values-refused : valuesOf r before ≡ refusedValues (outcomeOf r) before
-  unfolding valuesOf
-  values-refused = rw (not-heard (outcomeOf r) refused)
-
-  -- and leaves the state as it came
-  pub refused-state : valuesOf r before .state ≡ before
-  unfolding refusedValues
-  refused-state = ap (λ (v : Values). v .state) values-refused
+-- a refused record has none
+pub values-refused : (r : Record) (before : State) → (outcomeOf r ≡ Heard → ⊥)
+    → valuesOf r before ≡ refusedValues (outcomeOf r) (stateAfter (outcomeOf r) r before)
+unfolding valuesOf
+values-refused r before refused = rw (not-heard (outcomeOf r) refused)
 
 -- where there is no record the state is as it came, and the outcome says so
 pub nothing-state : (before : State) → nothingHeard before .state ≡ before
@@ -191,25 +187,6 @@ module _ (r : Record) (before : State) (heard : outcomeOf r ≡ Heard) where
   pub heard-averages : valuesOf r before .averages ≡ averagesOf (previousOf before (usedOf r before)) (usedOf r before)
   unfolding heardValues
   heard-averages = ap (λ (v : Values). v .averages) values-heard
-
-  -- the state after holds the LSPs that were used
-  pub heard-state : valuesOf r before .state ≡ stateAfter (usedOf r before)
-  unfolding heardValues
-  heard-state = ap (λ (v : Values). v .state) values-heard
-
-  -- after it a frame was heard
-  pub heard-begun : valuesOf r before .state .begun ≡ true
-  heard-begun = ap (λ (t : State). t .begun) heard-state
-
-  -- and its LSPs are kept
-  pub heard-hz : valuesOf r before .state .hz ≡ usedOf r before
-  heard-hz = ap (λ (t : State). t .hz) heard-state
-
--- the state after depends on the LSPs used alone
-pub state-by-used : (r₁ r₂ : Record) (s₁ s₂ : State) → outcomeOf r₁ ≡ Heard → outcomeOf r₂ ≡ Heard
-    → usedOf r₁ s₁ ≡ usedOf r₂ s₂
-    → valuesOf r₁ s₁ .state ≡ valuesOf r₂ s₂ .state
-state-by-used r₁ r₂ s₁ s₂ h₁ h₂ e = heard-state r₁ s₁ h₁ ∙ ap stateAfter e ∙ sym (heard-state r₂ s₂ h₂)
 
 -- ---- the averages
 
@@ -332,7 +309,8 @@ module _ (r : Record) (before : State) (heard : outcomeOf r ≡ Heard) (n : ℕ)
 module _ (r : Record) (before : State) where
   -- what holds of both answers holds of any
   pub by-values : (p : Values → Type 0) → (outcomeOf r ≡ Heard → p (heardValues r before))
-      → ((outcomeOf r ≡ Heard → ⊥) → p (refusedValues (outcomeOf r) before)) → p (valuesOf r before)
+      → ((outcomeOf r ≡ Heard → ⊥) → p (refusedValues (outcomeOf r) (stateAfter (outcomeOf r) r before)))
+      → p (valuesOf r before)
   by-values p h w = go (outcomeOf r) refl
     where
       refused : (outcomeOf r ≡ Heard → ⊥) → p (valuesOf r before)
@@ -348,6 +326,24 @@ module _ (r : Record) (before : State) where
   pub values-outcome : valuesOf r before .outcome ≡ outcomeOf r
   unfolding heardValues refusedValues
   values-outcome = by-values (λ v. v .outcome ≡ outcomeOf r) (λ e. sym e) (λ w. refl)
+
+  -- and has the state after
+  pub values-state : valuesOf r before .state ≡ stateAfter (outcomeOf r) r before
+  unfolding heardValues refusedValues
+  values-state =
+      by-values (λ v. v .state ≡ stateAfter (outcomeOf r) r before) (λ e. ap (λ (o : Outcome). stateAfter o r before)
+      (sym e)) (λ w. refl)
+
+  -- by the outcome
+  pub state-by : {o : Outcome} → outcomeOf r ≡ o → valuesOf r before .state ≡ stateAfter o r before
+  state-by e = values-state ∙ ap (λ (o : Outcome). stateAfter o r before) e
+
+  -- after a record whose indices fit the last SY is its own, heard or not
+  pub sync-kept : tooLarge r ≡ 0 → valuesOf r before .state .last ≡ Was (r .sy)
+  sync-kept fits =
+      ap (λ (t : State). t .last) values-state
+      ∙ by-outcome r (λ o. stateAfter o r before .last ≡ Was (r .sy)) (λ z s. refl) (λ h. absurd (omega arith))
+      (λ z s. refl)
 
   -- four delays are answered in any case, none over 147 samples
   pub delays-four : length (valuesOf r before .delays) ≡ 4

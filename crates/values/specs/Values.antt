@@ -1,4 +1,4 @@
--- The values of a record, given the state before it (document 01, "LSPs (3.7)", last paragraph).
+-- The values of a record, given the state before it (document 01, "LSPs (3.7)", last paragraph; document 02, K4).
 use mathlib.Core.Bool.{true, false, cond}
 use mathlib.Core.List.{List, [], _∷_}
 use Prim.Native.Nat.{ℕ, _+_, _-_, _*_}
@@ -18,10 +18,11 @@ use Rattle.delays.specs.declared.Meant.the-variants as Meant
 use Rattle.lsp.specs.Table.{hertzOf}
 use Rattle.lsp.specs.Order.{markOf}
 use Rattle.lsp.specs.Average.{averagesOf}
+use Rattle.values.specs.declared.LastSy.the-variants.{Never, Was}
 use Rattle.values.specs.declared.State.{State}
 use Rattle.values.specs.declared.Values.{Values}
 use Rattle.values.specs.declared.Outcome.{Outcome}
-use Rattle.values.specs.declared.Outcome.the-variants.{Heard, Nothing}
+use Rattle.values.specs.declared.Outcome.the-variants.{Heard, TooLarge, Expansion, Nothing}
 use Rattle.values.specs.Outcome.{outcomeOf, isHeard}
 
 -- the indices of subframe n: PD, PG and CG are the first, second and fourth of its four fields; the third, CI, has no
@@ -71,13 +72,25 @@ presentOf r = hertzOf (r .lsp) .hz
 abbrev pub usedOf : Record → State → List ℕ
 usedOf r before = presentOf r
 
--- before the first frame there is no previous one
+-- before the first frame there is no previous one; "a fresh state says there was none" of its SY (K4)
 unfoldable pub freshState : State
-freshState = record { begun = false; hz = tabulate (λ k. 0) 10 }
+freshState = record { begun = false; hz = tabulate (λ k. 0) 10; last = Never }
 
--- after a frame there is one, and the LSPs that were used are kept
-abbrev pub stateAfter : List ℕ → State
-stateAfter used = record { begun = true; hz = used }
+-- after a frame that is heard there is one: the LSPs that were used are kept, and "the running state keeps the last SY"
+abbrev pub heardState : List ℕ → ℕ → State
+heardState used sy = record { begun = true; hz = used; last = Was sy }
+
+-- "A frame refused with 6 also updates the last SY, and that only" (K4)
+abbrev pub syncState : State → ℕ → State
+syncState before sy = record { begun = before .begun; hz = before .hz; last = Was sy }
+
+-- the state after a record, by its outcome: but for 6, "a refused record leaves the state as it came" (01, amended by
+-- K4)
+abbrev pub stateAfter : Outcome → Record → State → State
+stateAfter Heard r before = heardState (usedOf r before) (r .sy)
+stateAfter (TooLarge field) r before = before
+stateAfter Expansion r before = syncState before (r .sy)
+stateAfter Nothing r before = before
 
 -- the previous frame's LSPs; a fresh state takes this frame's own
 abbrev pub previousOf : State → List ℕ → List ℕ
@@ -93,12 +106,12 @@ heardValues r before =
       delays = delaysOf r;
       averages = averagesOf (previousOf before (usedOf r before)) (usedOf r before);
       mark = markOf (presentOf r);
-      state = stateAfter (usedOf r before);
+      state = stateAfter Heard r before;
     }
 
--- a refused record has no values, and leaves the state as it came
+-- a refused record has no values
 unfoldable pub refusedValues : Outcome → State → Values
-refusedValues outcome before =
+refusedValues outcome after =
     record {
       outcome = outcome;
       cg = tabulate (λ k. pos 0) 4;
@@ -106,13 +119,15 @@ refusedValues outcome before =
       delays = tabulate (λ k. 0) 4;
       averages = tabulate (λ k. 0) 40;
       mark = 0;
-      state = before;
+      state = after;
     }
 
--- and so has, and does, no record at all
+-- nor has no record at all, and the state is as it came
 unfoldable pub nothingHeard : State → Values
 nothingHeard before = refusedValues Nothing before
 
 -- any record after any state
 unfoldable pub valuesOf : Record → State → Values
-valuesOf r before = unless (isHeard (outcomeOf r)) (refusedValues (outcomeOf r) before) (heardValues r before)
+valuesOf r before =
+    unless (isHeard (outcomeOf r)) (refusedValues (outcomeOf r) (stateAfter (outcomeOf r) r before))
+    (heardValues r before)

@@ -4,10 +4,18 @@ ghost use mathlib.Core.Path.{_≡_};
 ghost use Rattle.values.specs.Outcome.{refusalOf};
 ghost use Rattle.values.specs.Values.{freshState, refusedValues, nothingHeard};
 
-// What is kept from frame to frame: whether there was a previous frame, and its LSPs in Hz.
+// The SY of the frame before, or that there was none.
+pub enum LastSy {
+    Never,
+    Was(u16),
+}
+
+// What is kept from frame to frame: whether a frame was heard, the LSPs in Hz of the last that was, and the SY of the last frame,
+// heard or refused with 6.
 pub struct State {
     pub begun: bool,
     pub hz: [u16; 10],
+    pub last: LastSy,
 }
 
 impl State {
@@ -18,6 +26,7 @@ impl State {
         State {
             begun: false,
             hz: [0u16; 10],
+            last: LastSy::Never,
         }
     }
 }
@@ -45,7 +54,7 @@ impl Outcome {
 }
 
 // What a record says, subframe 1 first; PG in thousandths, delays in twelfths of a sample, averages in eighths of a Hz.
-// Where nothing was heard all are 0, and the state is as it came.
+// Where nothing was heard all are 0.
 pub struct Values {
     pub outcome: Outcome,
     pub cg: [i32; 4],
@@ -64,9 +73,9 @@ impl Values {
         Values::refused(Outcome::Nothing, before)
     }
 
-    // What a refused record gets, and what there is where there is none: nothing but the outcome.
-    pub fn refused(outcome: Outcome, before: State) -> Values
-        ensures { λ v. ⌜ v ≡ refusedValues outcome before ⌝ }
+    // What a refused record gets, and what there is where there is none: nothing but the outcome and the state after.
+    pub fn refused(outcome: Outcome, after: State) -> Values
+        ensures { λ v. ⌜ v ≡ refusedValues outcome after ⌝ }
     {
         Values {
             outcome,
@@ -75,7 +84,7 @@ impl Values {
             delays: [0u16; 4],
             averages: [0u32; 40],
             mark: 0,
-            state: before,
+            state: after,
         }
     }
 }

@@ -13,10 +13,12 @@ returns c =
 
 returns-2 : tie.Need-returns-2
 returns-2 c =
-    let one = c .before .before in
+    let two = c .before .before in
+    let one = two .before in
     let s = one .before in
     expansion-told (s .before .args .r) (s .before .args .before) (s .too-large .ensures) (one .if1 .left)
-    (c .before .if2 .taken)
+    (two .if2 .taken)
+    (c .before .sync-kept .ensures)
     (c .refused2 .ensures)
 
 returns-3 : tie.Need-returns-3
@@ -30,5 +32,5 @@ returns-3 c =
 pub values-of-spec : {M : Type 1} → statement M
 values-of-spec =
     tie.close
-    (tie.spec (λ c κs. omega arith) (λ c κs. omega arith) returns (λ c κs. omega arith) returns-2 (λ c κs. omega arith)
-    returns-3)
+    (tie.spec (λ c κs. omega arith) (λ c κs. omega arith) returns (λ c κs. omega arith) (λ c κs. omega arith) returns-2
+    (λ c κs. omega arith) returns-3)

@@ -6,10 +6,10 @@ use Rattle.heard.proofs.previous_of.Statement.{statement}
 use Rattle.heard.proofs.previous_of.Tie as tie
 
 returns : tie.Need-returns
-returns c = sym (previous-kept _ _ (c .if1 .taken))
+returns c = sym (previous-kept (c .before .before .args .before) _ (c .if1 .taken))
 
 returns-2 : tie.Need-returns-2
-returns-2 c = sym (previous-none _ _ (c .if1 .left))
+returns-2 c = sym (previous-none (c .before .before .args .before) _ (c .if1 .left))
 
 pub previous-of-spec : {M : Type 1} → statement M
 previous-of-spec = tie.close (tie.spec returns returns-2)

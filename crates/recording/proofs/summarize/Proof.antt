@@ -11,7 +11,9 @@ pass-after-requires c κs =
 returns : tie.Need-returns
 returns c =
     let p = c .before .before in
-    all-summed _ (p .before .before .before .before .args .walk) _ (p .pass-after .ensures)
+    let b = p .before in
+    all-summed _ (b .before .before .before .args .walk) (b .before .fresh .ensures) (b .begin .ensures)
+    (p .pass-after .ensures)
 
 pub summarize-spec : {M : Type 1} → statement M
 summarize-spec = tie.close (tie.spec (λ c κs. tt) (λ c κs. tt) pass-after-requires returns)

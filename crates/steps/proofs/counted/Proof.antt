@@ -10,12 +10,12 @@ add-repaired c = omega (arith, c .before .repair-by .ensures, repair-small (c .b
 add-breaks : tie.Need-add-breaks
 add-breaks c =
     let s = c .before .before .before .before in
-    omega (arith, c .before .break-by .ensures, break-small (s .args .n) (s .args .sy))
+    omega (arith, c .before .break-by .ensures, break-small (s .args .sy) (s .args .at))
 
 returns : tie.Need-returns
 returns c =
     let s = c .before .before .before .before in
-    counted (s .args .counts) (s .args .n) (s .args .number) (s .args .sy)
+    counted (s .args .counts) (s .args .number) (s .args .sy) (s .args .at)
     (c .before .before .before .repair-by .ensures) (c .before .break-by .ensures)
 
 pub counted-spec : {M : Type 1} → statement M

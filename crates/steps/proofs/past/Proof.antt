@@ -9,9 +9,11 @@ add-frames c = omega arith
 
 returns : tie.Need-returns
 returns c =
-    let n = c .before .before in
+    let a = c .before .before in
+    let n = a .before .before in
     let s = n .before .before in
-    past-frame (s .args .pass) (s .args .hearing) _ _ (n .correction-number .ensures) (c .before .counted .ensures)
+    past-frame (s .args .pass) (s .args .hearing) _ _ (n .correction-number .ensures) (a .breaks-at .ensures)
+    (c .before .counted .ensures)
 
 pub past-spec : {M : Type 1} → statement M
-past-spec = tie.close (tie.spec add-frames (λ c κs. tt) (search needs) returns)
+past-spec = tie.close (tie.spec add-frames (λ c κs. tt) (λ c κs. tt) (search needs) returns)
