@@ -62,9 +62,9 @@ extern "C" {
 /* ---- The version of this header ---- */
 
 #define OATLANTERN_VERSION_MAJOR 1
-#define OATLANTERN_VERSION_MINOR 2
+#define OATLANTERN_VERSION_MINOR 3
 #define OATLANTERN_VERSION_PATCH 0
-#define OATLANTERN_VERSION "1.2.0"
+#define OATLANTERN_VERSION "1.3.0"
 
 /* ---- Sizes ---- */
 

@@ -74,8 +74,7 @@ fn past(pass: Pass, hearing: Hearing, end: usize, left: usize) -> Pass
 {
     let frames = pass.frames + 1;
     let number = hearing.reading.correction_number();
-    let before = pass.state;
-    let last = before.last;
+    let last = last_before(pass);
     let at = breaks_at(last);
     let counts = counted(pass.counts, number, hearing.reading.indices.sy, at);
     let state = hearing.values.state;
@@ -86,6 +85,15 @@ fn past(pass: Pass, hearing: Hearing, end: usize, left: usize) -> Pass
         counts,
         state,
     }
+}
+
+// The last SY before the next frame of a pass, in whichever voice block that stands.
+fn last_before(pass: Pass) -> LastSy
+    ensures { λ r. ⌜ r ≡ pass .state .last ⌝ }
+{
+    let state = pass.state;
+    let last = state.last;
+    last
 }
 
 // The SY at which the next frame is a sync break: that of the frame before it, or 1 where there was none.
