@@ -1,14 +1,14 @@
 -- What a break is, and that lost frames are counted so: a recording without a break has SY in turn, and where frames are
 -- lost the turn is broken at most once.
 -- Assumes nothing.
-use mathlib.Core.Path.{_≡_, _∙_, sym, refl, ap, subst}
-use mathlib.Core.List.{List, [], _++_}
+use mathlib.Core.Path.{_≡_, _∙_, sym, refl, ap, ap₂, subst}
+use mathlib.Core.List.{List, [], _∷_, _++_, append-nil}
 use mathlib.Core.Logic.{_↔_}
-use Prim.Native.Nat.{ℕ, zero, suc, _+_, _-_, _%_, _<_, _≤_}
+use Prim.Native.Nat.{ℕ, zero, suc, _+_, _-_, _*_, _/_, _%_, _<_, _≤_}
 use native.Mathlib.Omega.{arith}
 use native.Mathlib.Decide.{ℕ-discrete, decLt}
-use lib.ListN.{length, getD, take, drop, length-append, length-drop, List·getD-append}
-use lib.Seq.{length-take-le, getD-take, getD-drop, getD-append-add}
+use lib.ListN.{length, getD, take, drop, length-append, length-drop, drop-of-length-le, List·getD-append}
+use lib.Seq.{length-take-le, take-all, take-append-le, drop-append-le, getD-take, getD-drop, getD-append-add}
 use Rattle.laws.specs.Total.{total}
 use Rattle.laws.proofs.Total.{total-none, total-one, total-zero}
 use Rattle.frame.specs.Answers.{readingOf}
@@ -17,14 +17,24 @@ use Rattle.values.specs.Values.{freshState}
 use Rattle.values.specs.declared.LastSy.{LastSy}
 use Rattle.values.specs.declared.LastSy.the-variants.{Never, Was}
 use Rattle.values.specs.declared.State.{State}
-use Rattle.blocks.specs.Frames.{framesOf}
+use Rattle.blocks.specs.Frames.{cut, eighteens, framesIn, framesOf}
+use Rattle.blocks.specs.Made.{made, MadeFrom}
+use Rattle.blocks.specs.declared.Heading.{Heading}
+use Rattle.blocks.proofs.Passed.{blocks-none, blocks-more}
+use Rattle.kept.proofs.Most.{made-long}
 use Rattle.passes.specs.Counted.{breaksAt, breakOf, frameAt, lastBefore, breakAt}
 use Rattle.passes.proofs.Counting.{break-one, break-none, break-small, last-behind}
 use Rattle.passes.proofs.Hearings.{through-last}
+use Rattle.passes.proofs.Passes.{frames-most}
+use Rattle.recording.specs.Judged.{judgedOf}
 use Rattle.recording.specs.declared.Summary.{Summary}
+use Rattle.recording.specs.declared.Judged.the-variants.{Sound}
 use Rattle.promises.specs.Breaks.{syncOf, Breaks, first-of-all, first-here, later, BreakExactly, SyncRunsOn, Lost}
-use Rattle.promises.specs.Breaks.{OneLost, FirstLost, LastLost, TwoLost, ManyLost}
-use Rattle.promises.proofs.Parts.{breaks-counted}
+use Rattle.promises.specs.Parts.{joined}
+use Rattle.promises.specs.Made.{madeSummary}
+use Rattle.promises.specs.Breaks.{LeftOut, OneLost, FirstLost, LastLost, TwoLost, ManyLost}
+use Rattle.promises.proofs.Parts.{breaks-counted, frames-are-long}
+use Rattle.promises.proofs.Made.{made-is-sound}
 
 -- ---- what a break is
 
@@ -128,36 +138,48 @@ adds a b c same other = go (ℕ-discrete a b)
     go (yes e) = sym (break-one a b e) ∙ sym (same e)
     go (no w) = sym (break-none a b w) ∙ sym (other w)
 
-module _ (frames : List (List ℕ)) (k m : ℕ) (within : k + m ≤ length frames)
-    (unbroken : (n : ℕ) → 1 ≤ n → n ≤ length frames → breakAt freshState frames n ≡ 0) where
-  -- the frames that are left
-  abbrev left : List (List ℕ)
-  left = take k frames ++ drop (k + m) frames
+-- the frames that are left
+abbrev leftOf : List (List ℕ) → ℕ → ℕ → List (List ℕ)
+leftOf frames k m = take k frames ++ drop (k + m) frames
 
+module _ (frames : List (List ℕ)) (k m : ℕ) (within : k + m ≤ length frames) where
   front-long : length (take k frames) ≡ k
   front-long = length-take-le k frames (omega arith)
 
-  left-long : length left ≡ length frames - m
+  left-long : length (leftOf frames k m) ≡ length frames - m
   left-long = simp (length-append, length-drop) (omega (arith, front-long))
 
-  -- those before the gap have the SY that they had, and those behind it that of m frames on
-  sync-before : (j : ℕ) → j < k → syncOf left (suc j) ≡ j % 2
-  sync-before j h =
-      let n : suc j - 1 ≡ j = omega arith in
+  -- those before the gap are the ones that stood there, and those behind it the ones m frames on
+  left-before : (j : ℕ) → j < k → getD (leftOf frames k m) j [] ≡ getD frames j []
+  left-before j h =
       let l : j < length (take k frames) = omega (arith, front-long) in
+      List·getD-append (take k frames) (drop (k + m) frames) [] j l ∙ getD-take k frames j [] h
+
+  left-behind : (j : ℕ) → getD (leftOf frames k m) (k + j) [] ≡ getD frames (k + m + j) []
+  left-behind j =
+      let n : k + j ≡ length (take k frames) + j = omega (arith, front-long) in
+      ap (λ (i : ℕ). getD (leftOf frames k m) i []) n ∙ getD-append-add (take k frames) (drop (k + m) frames) j []
+      ∙ getD-drop (k + m) frames j []
+
+module _ (frames : List (List ℕ)) (k m : ℕ) (within : k + m ≤ length frames)
+    (unbroken : (n : ℕ) → 1 ≤ n → n ≤ length frames → breakAt freshState frames n ≡ 0) where
+  abbrev left : List (List ℕ)
+  left = leftOf frames k m
+
+  -- where a frame stands in the other place, its SY is in turn there
+  sync-there : (i j : ℕ) → j < length frames → getD left i [] ≡ getD frames j [] → syncOf left (suc i) ≡ j % 2
+  sync-there i j h e =
+      let n : suc i - 1 ≡ i = omega arith in
+      let o : j ≡ suc j - 1 = omega arith in
       ap (λ (f : List ℕ). readingOf f .indices .sy)
-      (ap (λ (i : ℕ). getD left i []) n ∙ List·getD-append (take k frames) (drop (k + m) frames) [] j l
-      ∙ getD-take k frames j [] h ∙ ap (λ (i : ℕ). getD frames i []) (sym n))
+      (ap (λ (l : ℕ). getD left l []) n ∙ e ∙ ap (λ (l : ℕ). getD frames l []) o)
       ∙ in-turn frames (length frames) unbroken j (omega arith)
 
+  sync-before : (j : ℕ) → j < k → syncOf left (suc j) ≡ j % 2
+  sync-before j h = sync-there j j (omega arith) (left-before frames k m within j h)
+
   sync-behind : (j : ℕ) → k + m + j < length frames → syncOf left (suc (k + j)) ≡ (k + m + j) % 2
-  sync-behind j h =
-      let n : suc (k + j) - 1 ≡ length (take k frames) + j = omega (arith, front-long) in
-      let o : k + m + j ≡ suc (k + m + j) - 1 = omega arith in
-      ap (λ (f : List ℕ). readingOf f .indices .sy)
-      (ap (λ (i : ℕ). getD left i []) n ∙ getD-append-add (take k frames) (drop (k + m) frames) j []
-      ∙ getD-drop (k + m) frames j [] ∙ ap (λ (i : ℕ). getD frames i []) o)
-      ∙ in-turn frames (length frames) unbroken (k + m + j) (omega arith)
+  sync-behind j h = sync-there (k + j) (k + m + j) h (left-behind frames k m within j)
 
   -- away from the gap no frame is a break
   first-away : 0 < k → breakAt freshState left 1 ≡ 0
@@ -212,14 +234,14 @@ module _ (frames : List (List ℕ)) (k m : ℕ) (within : k + m ≤ length frame
   -- so they count together
   some-behind : k + m < length frames → total (breakAt freshState left) (length left) ≡ m % 2
   some-behind h =
-      ap (total (breakAt freshState left)) left-long
+      ap (total (breakAt freshState left)) (left-long frames k m within)
       ∙ total-one (breakAt freshState left) (suc k) (length frames - m) (omega arith) (omega arith) none-away
       ∙ at-gap k refl h
 
   -- and where none is behind the gap, nothing
   none-behind : k + m ≡ length frames → total (breakAt freshState left) (length left) ≡ 0
   none-behind h =
-      ap (total (breakAt freshState left)) left-long
+      ap (total (breakAt freshState left)) (left-long frames k m within)
       ∙ total-none (breakAt freshState left) (length frames - m) (λ n a b. none-away n a b (λ e. omega arith))
 
 module _ {s t : List ℕ} {k m : ℕ} {x y : Summary} (lost : Lost s t k m x y) where
@@ -231,8 +253,7 @@ module _ {s t : List ℕ} {k m : ℕ} {x y : Summary} (lost : Lost s t k m x y) 
 
   -- what is counted is what is left
   left-counted : y .counts .breaks
-      ≡ total (breakAt freshState (take k (framesOf s) ++ drop (k + m) (framesOf s)))
-      (length (take k (framesOf s) ++ drop (k + m) (framesOf s)))
+      ≡ total (breakAt freshState (leftOf (framesOf s) k m)) (length (leftOf (framesOf s) k m))
   left-counted =
       breaks-counted t y (lost .sound)
       ∙ ap (λ (l : List (List ℕ)). total (breakAt freshState l) (length l)) (lost .without)
@@ -266,3 +287,86 @@ two-lost s t k x y lost h = go (decLt (k + 2) (length (framesOf s)))
     go : Dec (k + 2 < length (framesOf s)) → y .counts .breaks ≡ 0
     go (yes l) = lost-amid lost l
     go (no w) = lost-last lost (omega arith)
+
+-- ---- there is such a recording
+
+-- each of these frames is eighteen bytes
+abbrev Long : List (List ℕ) → Type 0
+Long fs = (k : ℕ) → k < length fs → length (getD fs k []) ≡ 18
+
+joined-long : (fs : List (List ℕ)) → Long fs → length (joined fs) ≡ 18 * length fs
+unfolding joined
+joined-long [] h = refl
+joined-long (f ∷ fs) h =
+    let a : length f ≡ 18 = h 0 (omega arith) in
+    let b = joined-long fs (λ k l. h (suc k) (omega arith)) in
+    simp length-append (omega (arith, a, b))
+
+-- put together and cut they are the same again
+cut-joined : (fs : List (List ℕ)) → Long fs → cut (length fs) (joined fs) ≡ fs
+unfolding joined cut
+cut-joined [] h = refl
+cut-joined (f ∷ fs) h =
+    let a : length f ≡ 18 = h 0 (omega arith) in
+    ap₂ (λ (g : List ℕ) (r : List ℕ). g ∷ cut (length fs) r)
+    (take-append-le 18 f (joined fs) (omega arith) ∙ take-all 18 f (omega arith))
+    (drop-append-le 18 f (joined fs) (omega arith)
+    ∙ ap (λ (r : List ℕ). r ++ joined fs) (drop-of-length-le f {i = 18} (omega arith)))
+    ∙ ap (λ (r : List (List ℕ)). f ∷ r) (cut-joined fs (λ k l. h (suc k) (omega arith)))
+
+-- so a voice block of them has these frames
+block-frames : (fs : List (List ℕ)) → Long fs → framesIn (joined fs ∷ []) ≡ fs
+unfolding framesIn
+block-frames fs h =
+    let l = joined-long fs h in
+    let n : length (joined fs) / 18 ≡ length fs = omega arith in
+    append-nil (eighteens (joined fs)) ∙ ap (λ (k : ℕ). cut k (joined fs)) n ∙ cut-joined fs h
+
+-- some frames, few enough, are those of a recording of one voice block
+module _ (heading : Heading) (fs : List (List ℕ)) (long : Long fs) (some : 0 < length fs) (few : length fs ≤ 3639) where
+  abbrev payload : List ℕ
+  payload = joined fs
+
+  one-block : MadeFrom (made heading (payload ∷ [])) heading (payload ∷ [])
+  one-block =
+      let l = joined-long fs long in
+      let m = made-long heading (payload ∷ []) in
+      let a = blocks-more payload [] in
+      let b = blocks-none in
+      record {
+        is = refl;
+        short = omega (arith, m, a, b);
+        some = omega arith;
+        positive = λ k h. first (λ (p : List ℕ). 0 < length p) k h (omega arith);
+        whole = λ k h. first (λ (p : List ℕ). length p % 18 ≡ 0) k h (omega arith);
+      }
+    where
+      first : (P : List ℕ → Type 0) (k : ℕ) → k < 1 → P payload → P (getD (payload ∷ []) k [])
+      first P zero h p = p
+      first P (suc k) h p = absurd (omega arith)
+
+  recorded : (t : List ℕ) × (y : Summary) × (judgedOf t ≡ Sound y) × (framesOf t ≡ fs)
+  unfolding framesOf
+  recorded =
+      let t = made heading (payload ∷ []) in
+      let e = made-is-sound t heading (payload ∷ []) one-block in
+      (t, madeSummary heading (payload ∷ []), e .0, ap framesIn (e .1) ∙ block-frames fs long)
+
+pub left-out : LeftOut
+unfolding LeftOut
+left-out s x e k m one within some =
+    let most = frames-most s in
+    let n = left-long (framesOf s) k m within in
+    recorded (x .heading) (leftOf (framesOf s) k m) long (omega arith) (omega arith)
+  where
+    long : Long (leftOf (framesOf s) k m)
+    long j h = go (decLt j k)
+      where
+        go : Dec (j < k) → length (getD (leftOf (framesOf s) k m) j []) ≡ 18
+        go (yes l) = ap length (left-before (framesOf s) k m within j l) ∙ frames-are-long s j (omega arith)
+        go (no w) =
+            let n : j ≡ k + (j - k) = omega arith in
+            let c = left-long (framesOf s) k m within in
+            ap length
+            (ap (λ (i : ℕ). getD (leftOf (framesOf s) k m) i []) n ∙ left-behind (framesOf s) k m within (j - k))
+            ∙ frames-are-long s (k + m + (j - k)) (omega (arith, c))

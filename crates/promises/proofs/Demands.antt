@@ -173,6 +173,7 @@ sync-breaks =
     record {
       break-exactly = breaks.break-exactly;
       sync-runs-on = breaks.sync-runs-on;
+      left-out = breaks.left-out;
       one-lost = breaks.one-lost;
       first-lost = breaks.first-lost;
       last-lost = breaks.last-lost;

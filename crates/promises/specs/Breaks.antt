@@ -38,6 +38,15 @@ SyncRunsOn =
     (before : State) (s : List ℕ) (k : ℕ) → 1 ≤ k → k ≤ length (framesOf s)
     → stateThrough before (take k (framesOf s)) .last ≡ Was (syncOf (framesOf s) k)
 
+-- of any sound recording frames that follow each other can be left out, but not all: what is left are the frames of a
+-- sound recording
+unfoldable pub LeftOut : Type 0
+LeftOut =
+    (s : List ℕ) (x : Summary) → judgedOf s ≡ Sound x → (k m : ℕ) → 1 ≤ m → k + m ≤ length (framesOf s)
+    → m < length (framesOf s)
+    → (t : List ℕ) × (y : Summary) × (judgedOf t ≡ Sound y)
+    × (framesOf t ≡ take k (framesOf s) ++ drop (k + m) (framesOf s))
+
 -- a recording without a break, of which the m frames after the first k were lost
 pub record Lost (s t : List ℕ) (k m : ℕ) (x y : Summary) : Type 0 where
   pub whole : judgedOf s ≡ Sound x

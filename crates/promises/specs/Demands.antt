@@ -27,7 +27,7 @@ use Rattle.promises.specs.Rule.{NumbersInTurn, BlockFaultsTold, RefusedE
 use Rattle.promises.specs.Made.{MadeIsSound, SoundIsMade, NoTwo}
 use Rattle.promises.specs.Parts.{VoiceBlocksStand, NoSuchBlock, FramesAreAll, FramesAreLong, FramesFit, EndCounts}
 use Rattle.promises.specs.Parts.{RepairsCounted, BreaksCounted, RefusedHasNone, EmptyRefused}
-use Rattle.promises.specs.Breaks.{BreakExactly, SyncRunsOn, OneLost, FirstLost, LastLost, TwoLost, ManyLost}
+use Rattle.promises.specs.Breaks.{BreakExactly, SyncRunsOn, LeftOut, OneLost, FirstLost, LastLost, TwoLost, ManyLost}
 use Rattle.promises.specs.Running.{StateRunsOn, NothingBeyond, PassHears, PassCounts, SoFarAlone}
 use Rattle.promises.specs.Worked.{AllTwelve}
 use Rattle.promises.specs.Tally.{SalvagedSameKey}
@@ -222,6 +222,7 @@ pub record SyncBreaks : Type 0 where
   pub break-exactly : BreakExactly
   pub sync-runs-on : SyncRunsOn
   -- "One lost frame is one break"
+  pub left-out : LeftOut
   pub one-lost : OneLost
   pub first-lost : FirstLost
   pub last-lost : LastLost
