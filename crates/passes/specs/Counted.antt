@@ -44,8 +44,8 @@ counting c last r = countingOf c (correctionNumber r) (r .indices .sy) (breaksAt
 abbrev pub frameAt : List (List ℕ) → ℕ → List ℕ
 frameAt frames n = getD frames (n - 1) []
 
--- the last SY before frame n, counted from 1: that of the frame before it, refused with 6 or not; before the first, what
--- the state says
+-- the last SY before frame n, counted from 1: that of the frame before it, refused with 6 or not; before the first,
+-- what the state says
 abbrev pub lastBefore : State → List (List ℕ) → ℕ → LastSy
 lastBefore before frames n = cond (eqb n 1) (before .last) (Was (readingOf (frameAt frames (n - 1)) .indices .sy))
 

@@ -1,5 +1,5 @@
--- What a break is, and that lost frames are counted so: a recording without a break has SY in turn, and where frames are
--- lost the turn is broken at most once.
+-- What a break is, and what lost frames are counted as: a recording without a break has SY in turn, and where frames
+-- are lost the turn is missed at most once.
 -- Assumes nothing.
 use mathlib.Core.Path.{_≡_, _∙_, sym, refl, ap, ap₂, subst}
 use mathlib.Core.List.{List, [], _∷_, _++_, append-nil}
@@ -82,7 +82,8 @@ break-exactly before frames (suc (suc n)) h =
     there e =
         let o : 1 ≤ suc n = omega arith in
         later (suc n) o
-        (broken-at (syncOf frames (suc (suc n))) (syncOf frames (suc n)) (sym (break-later before frames (suc n) o) ∙ e))
+        (broken-at (syncOf frames (suc (suc n))) (syncOf frames (suc n))
+        (sym (break-later before frames (suc n) o) ∙ e))
 
     back : Breaks before frames (suc (suc n)) → breakAt before frames (suc (suc n)) ≡ 1
     back (later m a e) =

@@ -56,7 +56,8 @@ use Rattle.pairs.specs.Pairs.{recordIn}
 use Rattle.gateway.specs.Results.{refused, readAnswer, readResult, readInto, recordLeft, writeResult, frameLeftBy}
 use Rattle.promises.specs.Refused.{ReaderRefuses, LowestTooLarge, Ordered, LowestFall, WriterGives, WriterRefuses}
 use Rattle.promises.specs.Refused.{RefusedFrameStays, RefusedReadStays, RefusedWriteStays}
-use Rattle.promises.specs.Refused.{HearingGives, HearingRefuses, RefusedStateStays, SyncAlone, ExpansionKeepsSync, NothingStays}
+use Rattle.promises.specs.Refused.{HearingGives, HearingRefuses, RefusedStateStays, SyncAlone}
+use Rattle.promises.specs.Refused.{ExpansionKeepsSync, NothingStays}
 use Rattle.promises.specs.Refused.{AllWithin, LowestOver, HertzGives, HertzRefuses}
 use Rattle.promises.specs.Refused.{FirstTooLarge, first-large, second-large, third-large, fourth-large}
 use Rattle.promises.specs.Refused.{Means, MeaningGives, MeaningRefuses, Listed, Follows}

@@ -508,7 +508,8 @@ judged-sound s x e = go (walkedOf s .ending) e
 pub walked-judged : (s : List ℕ) (x : Ending) → walkedOf s .ending ≡ x
     → judgedOf s ≡ judgedBy x (summaryOf (walkedOf s .walk) (countsOf freshState (framesOf s)))
 unfolding judgedOf
-walked-judged s x e = ap (λ (y : Ending). judgedBy y (summaryOf (walkedOf s .walk) (countsOf freshState (framesOf s)))) e
+walked-judged s x e =
+    ap (λ (y : Ending). judgedBy y (summaryOf (walkedOf s .walk) (countsOf freshState (framesOf s)))) e
 
 pub refused-exactly : RefusedExactly
 refused-exactly s c =

@@ -18,8 +18,8 @@ use Rattle.recording.specs.declared.Judged.the-variants.{Sound}
 abbrev pub syncOf : List (List ℕ) → ℕ → ℕ
 syncOf frames n = readingOf (frameAt frames n) .indices .sy
 
--- frame n is a break, after a state, ours or not: "a frame whose SY equals that of the frame before it, or a first frame
--- whose SY is 1"
+-- frame n is a break, after a state, ours or not: "a frame whose SY equals that of the frame before it, or a first
+-- frame whose SY is 1"
 pub data Breaks (before : State) (frames : List (List ℕ)) : ℕ → Type 0 where
   first-of-all : before .last ≡ Never → syncOf frames 1 ≡ 1 → Breaks before frames 1
   first-here : before .last ≡ Was (syncOf frames 1) → Breaks before frames 1
@@ -31,8 +31,8 @@ BreakExactly =
     (before : State) (frames : List (List ℕ)) (n : ℕ) → 1 ≤ n
     → ((breakAt before frames n ≡ 1) ↔ Breaks before frames n) × (breakAt before frames n ≤ 1)
 
--- "The running state keeps the last SY": after the first frames of a recording, in whichever voice blocks, it is that of
--- the last of them, refused with 6 or not
+-- "The running state keeps the last SY": after the first frames of a recording, in whichever voice blocks, it is that
+-- of the last of them, refused with 6 or not
 unfoldable pub SyncRunsOn : Type 0
 SyncRunsOn =
     (before : State) (s : List ℕ) (k : ℕ) → 1 ≤ k → k ≤ length (framesOf s)

@@ -12,7 +12,8 @@ use Rattle.promises.specs.Frames.{OneFrame, SixteenFrames}
 use Rattle.promises.specs.Functions.{WriteThenRead, ReadThenWrite, RepairByDamage, OneFlip, TwoFlips, NoTwoFrames}
 use Rattle.promises.specs.Refused.{ReaderRefuses, WriterRefuses, RefusedFrameStays, RefusedReadStays}
 use Rattle.promises.specs.Refused.{RefusedWriteStays, HearingRefuses, RefusedStateStays, ExpansionKeepsSync}
-use Rattle.promises.specs.Refused.{NothingStays, HertzRefuses, MeaningRefuses, DelaysRefuse, CodeRefuses, RefusedCodeStays}
+use Rattle.promises.specs.Refused.{NothingStays, HertzRefuses, MeaningRefuses, DelaysRefuse, CodeRefuses}
+use Rattle.promises.specs.Refused.{RefusedCodeStays}
 use Rattle.promises.specs.Repairs.{CleanChangesNothing, ParityHitChangesNothing, DataHitInvertsOne}
 use Rattle.promises.specs.Repairs.{TwoNeverMended, UnguardedUnseen, ThreeUnseen, FifteenPlaces}
 use Rattle.promises.specs.Boundary.{PairsHoldRecord, ReadTells, WriteTells, BoundaryReadsBack}
@@ -27,7 +28,8 @@ use Rattle.promises.specs.Rule.{NumbersInTurn, BlockFaultsTold, RefusedE
 use Rattle.promises.specs.Made.{MadeIsSound, SoundIsMade, NoTwo}
 use Rattle.promises.specs.Parts.{VoiceBlocksStand, NoSuchBlock, FramesAreAll, FramesAreLong, FramesFit, EndCounts}
 use Rattle.promises.specs.Parts.{RepairsCounted, BreaksCounted, RefusedHasNone, EmptyRefused}
-use Rattle.promises.specs.Breaks.{BreakExactly, SyncRunsOn, LeftOut, OneLost, FirstLost, LastLost, TwoLost, ManyLost}
+use Rattle.promises.specs.Breaks.{BreakExactly, SyncRunsOn, LeftOut, OneLost, FirstLost, LastLost, TwoLost}
+use Rattle.promises.specs.Breaks.{ManyLost}
 use Rattle.promises.specs.Running.{StateRunsOn, NothingBeyond, PassHears, PassCounts, SoFarAlone}
 use Rattle.promises.specs.Worked.{AllTwelve}
 use Rattle.promises.specs.Tally.{SalvagedSameKey}
@@ -212,12 +214,12 @@ pub record TallyBook : Type 0 where
   pub either-order : EitherOrder
   pub any-order : AnyOrder
 
--- Document 02, K4: "A break is [..] a frame whose SY equals that of the frame before it, or a first frame whose SY is 1.
--- The running state keeps the last SY, and a fresh state says there was none. [..] A frame refused with 6 also updates
--- the last SY, and that only".
+-- Document 02, K4: "A break is [..] a frame whose SY equals that of the frame before it, or a first frame whose SY is
+-- 1. The running state keeps the last SY, and a fresh state says there was none. [..] A frame refused with 6 also
+-- updates the last SY, and that only".
 --
--- What becomes of the state stands under demand 1 for a refusal and under demand 2 for a record that is heard, and there
--- too that the listing's last number is the count of breaks.
+-- What becomes of the state stands under demand 1 for a refusal and under demand 2 for a record that is heard, and
+-- there too that the listing's last number is the count of breaks.
 pub record SyncBreaks : Type 0 where
   pub break-exactly : BreakExactly
   pub sync-runs-on : SyncRunsOn

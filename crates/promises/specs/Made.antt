@@ -14,7 +14,8 @@ use Rattle.recording.specs.declared.Judged.the-variants.{Sound}
 
 -- what is said of a recording made so
 abbrev pub madeSummary : Heading → List (List ℕ) → Summary
-madeSummary heading ps = record { heading = heading; frames = length (framesIn ps); counts = countsOf freshState (framesIn ps) }
+madeSummary heading ps =
+    record { heading = heading; frames = length (framesIn ps); counts = countsOf freshState (framesIn ps) }
 
 -- bytes made so are sound, and the answer is just what they were made from
 abbrev pub MadeIsSound : Type 0

@@ -117,8 +117,8 @@ FirstAveraged =
     (r : Record) (before : State) → valuesOf r before .outcome ≡ Heard → before .begun ≡ false
     → (n j : ℕ) → 1 ≤ n → n ≤ 4 → 1 ≤ j → j ≤ 10 → average r before n j ≡ 8 * lsp (usedOf r before) j
 
--- our fresh state is one of them, and "says there was none" of the last SY (document 02, K4); the state after a frame is
--- not, and holds the LSPs that were used and the frame's SY
+-- our fresh state is one of them, and "says there was none" of the last SY (document 02, K4); the state after a frame
+-- is not, and holds the LSPs that were used and the frame's SY
 unfoldable pub FreshNotBegun : Type 0
 FreshNotBegun = freshState .begun ≡ false
 

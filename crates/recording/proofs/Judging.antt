@@ -83,6 +83,6 @@ module _ (s : List ℕ) {w : Walked} (is : w ≡ walkedOf s) where
   judge-refused {cause} ends = judged (Ending.Refused cause) ends refl
 
   -- a sound one is judged by its walk and the counts of its frames
-  pub judge-sound : w .ending ≡ Ending.Sound → {x : Summary} → x ≡ summaryOf (w .walk) (countsOf freshState (framesOf s))
-      → Sound x ≡ judgedOf s
+  pub judge-sound : w .ending ≡ Ending.Sound → {x : Summary}
+      → x ≡ summaryOf (w .walk) (countsOf freshState (framesOf s)) → Sound x ≡ judgedOf s
   judge-sound ends counted = ap Sound counted ∙ judged Ending.Sound ends refl

@@ -1,5 +1,5 @@
--- What is said of a whole recording: sound, with its counts of repaired frames and sync breaks from a fresh state on, or
--- refused.
+-- What is said of a whole recording: sound, with its counts of repaired frames and sync breaks from a fresh state on,
+-- or refused.
 use mathlib.Core.List.{List, []}
 use Prim.Native.Nat.{ℕ}
 use Rattle.values.specs.Values.{freshState}
