@@ -267,7 +267,7 @@ module _ {s t : List ℕ} {k m : ℕ} {x y : Summary} (lost : Lost s t k m x y) 
 
 pub many-lost : ManyLost
 unfolding ManyLost
-many-lost s t k m x y lost h = lost-amid lost h
+many-lost s t k m x y lost = (lost-amid lost, lost-last lost)
 
 pub one-lost : OneLost
 unfolding OneLost

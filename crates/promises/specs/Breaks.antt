@@ -74,7 +74,10 @@ unfoldable pub TwoLost : Type 0
 TwoLost = (s t : List ℕ) (k : ℕ) (x y : Summary) → Lost s t k 2 x y → k + 2 ≤ length (framesOf s)
     → y .counts .breaks ≡ 0
 
--- any number that follow each other, with a frame behind them: an odd number is one break, an even number none
+-- any number that follow each other: with a frame behind them an odd number is one break and an even number none; at
+-- the end of the recording none, however many
 unfoldable pub ManyLost : Type 0
-ManyLost = (s t : List ℕ) (k m : ℕ) (x y : Summary) → Lost s t k m x y → k + m < length (framesOf s)
-    → y .counts .breaks ≡ m % 2
+ManyLost =
+    (s t : List ℕ) (k m : ℕ) (x y : Summary) → Lost s t k m x y
+    → (k + m < length (framesOf s) → y .counts .breaks ≡ m % 2)
+    × (k + m ≡ length (framesOf s) → y .counts .breaks ≡ 0)
