@@ -6,7 +6,8 @@
 
 A refusal counts only if a fact fails: what was to be shown does not follow, or is not what was shown. A proof file that no longer
 fits the code (a name out of scope, a place that is gone) shows nothing about the program, nor does a refusal that finds the two types to
-be identical. What only follows from an earlier refusal ("was not admitted") is passed over. That the edited program is a wrong one is not
+be identical, nor one that finds an equation of truth values (a test of `a & b`) where a fact about numbers is asked for: an equal program
+would get it too. What only follows from an earlier refusal ("was not admitted") is passed over. That the edited program is a wrong one is not
 shown here but by running it: wrong.py. The last line is `N cases, M faults`.
 """
 
@@ -22,7 +23,10 @@ FACTS = [
     r"`search`: no proof of",
     r"it is not proved that",
 ]
-NO_FACTS = [r"(?<!bytes of )the two (types|sides) are identical"]
+NO_FACTS = [
+    r"(?<!bytes of )the two (types|sides) are identical",
+    r"the two types are `Path Prim\.Native\.Nat\.ℕ .*\(expected\) and `Path mathlib\.Core\.Bool\.Bool ",
+]
 MESSAGE = re.compile(r"^(?:note: )?(?P<file>\S+?):(?P<line>\d+):\d+: (?:(?:error|note): (?:`(?P<lemma>[^`]*)`: )?)?(?P<said>.*)$")
 
 
