@@ -1,7 +1,8 @@
-// Runs the C boundary's two functions, and the functions of recordings and values at places that no recording leads to,
+// Runs the C boundary's two functions, and the functions of recordings, values and corrections at places that no recording leads to,
 // on the cases that stand on standard input, and prints what each answers. outside/CASES.md says how a case is laid out
 // and what is printed of it.
 mod boundary;
+mod corrections;
 mod places;
 mod say;
 
@@ -48,6 +49,8 @@ fn given(case: &[u8], kind: u8, long: u8, n: usize) {
         b'r' => boundary::read(part, n),
         b'w' => boundary::write(part, n),
         b'k' => places::frame(part, n),
+        b'c' => corrections::any(n),
+        b'm' => corrections::mend(part, n),
         b'f' => places::find(part, n),
         b'p' => places::next(part, n),
         _ => places::values(part, n),

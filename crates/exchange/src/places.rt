@@ -1,4 +1,5 @@
 // The functions of recordings and values at places that no recording leads to.
+use crate::corrections;
 use crate::say;
 use blocks::Found;
 use passes::Counts;
@@ -9,11 +10,12 @@ use values::Outcome;
 use values::State;
 use values::Values;
 
-// Frame k of a recording: its correction number, and its values.
+// Frame k of a recording: what correction did in it, and its values.
 pub fn frame(s: &[u8], k: usize) {
     let hearing = recording::frame_heard(s, k);
     let reading = hearing.reading;
-    say::number(reading.correction_number());
+    let correction = reading.correction;
+    corrections::told(correction);
     heard(hearing.values);
 }
 

@@ -19,8 +19,10 @@ use Rattle.record.specs.declared.Record.{Record}
 use Rattle.frame.specs.Places.{fieldAt, bitIn}
 use Rattle.frame.specs.Parity.{guardedPlace, check, numberOf, number, mended}
 use Rattle.frame.specs.Frame.{bitAt, packed, indexIn, recordOf, sent, withParity, parityOf, frameOf}
-use Rattle.frame.specs.Answers.{recordMark, noRecord, readIn, readingOf, writtenOf, leftBy, frameLeft}
+use Rattle.frame.specs.Correction.{correctionOf}
+use Rattle.frame.specs.Answers.{recordMark, notRead, readIn, readingOf, writtenOf, leftBy, frameLeft}
 use Rattle.frame.specs.Steps.{mendedFields, recordBy, fieldsOf}
+use Rattle.frame.specs.declared.Correction.{Correction}
 use Rattle.frame.specs.declared.Reading.{Reading}
 use Rattle.frame.specs.declared.Verdict.the-variants as Verdict
 use Rattle.frame.specs.declared.Written.{Written}
@@ -38,12 +40,11 @@ unfolding readingOf
 read-eighteen s e = rw (eq-eqb (length s) 18 e)
 
 -- a reading of its parts
-abbrev reading : Record → ℕ → ℕ → Reading
-reading r n m = record { verdict = Verdict.Read; indices = r; number = n; mark = m }
+abbrev reading : Record → Correction → ℕ → Reading
+reading r c m = record { verdict = Verdict.Read; indices = r; correction = c; mark = m }
 
 -- other bytes are not
-pub read-refused : (s : List ℕ) → (length s ≡ 18 → ⊥)
-    → record { verdict = Verdict.WrongLength; indices = noRecord; number = 0; mark = 0 } ≡ readingOf s
+pub read-refused : (s : List ℕ) → (length s ≡ 18 → ⊥) → notRead ≡ readingOf s
 unfolding readingOf
 read-refused s e = rw (ne-eqb (length s) 18 e)
 
@@ -56,23 +57,26 @@ module _ (s v : List ℕ) (n : ℕ) (gathered : v ≡ tabulate (indexIn (bitAt s
       numbered ∙ ap (λ (l : List ℕ). numberOf (guardedBits l)) gathered ∙ number-of-fields (bitAt s) (bitAt-small s)
 
   -- what the steps answer, one after the other, is the reading
-  pub read-whole : (w : List ℕ) (m : ℕ) (r : Record) → length s ≡ 18 → w ≡ mendedFields v n → r ≡ recordBy w
-      → m ≡ recordMark r
-      → reading r n m ≡ readingOf s
+  pub read-whole : (c : Correction) (w : List ℕ) (m : ℕ) (r : Record) → length s ≡ 18 → c ≡ correctionOf n
+      → w ≡ mendedFields v c → r ≡ recordBy w → m ≡ recordMark r
+      → reading r c m ≡ readingOf s
   unfolding readingOf
-  read-whole w m r long mended-is recorded marked =
+  read-whole c w m r long corrected mended-is recorded marked =
       rw (eq-eqb (length s) 18 long)
       (λ i. record {
         verdict = Verdict.Read;
         indices = same i;
-        number = number-is i;
+        correction = case i;
         mark = (marked ∙ ap recordMark same) i;
       })
     where
+      case : c ≡ correctionOf (number (bitAt s))
+      case = corrected ∙ ap correctionOf number-is
+
       same : r ≡ recordOf (mended (bitAt s))
       same =
-          recorded ∙ ap recordBy mended-is ∙ ap (λ (l : List ℕ). recordBy (mendedFields l n)) gathered
-          ∙ ap (λ (k : ℕ). recordBy (mendedFields (tabulate (indexIn (bitAt s)) 29) k)) number-is
+          recorded ∙ ap recordBy mended-is ∙ ap (λ (l : List ℕ). recordBy (mendedFields l c)) gathered
+          ∙ ap (λ (x : Correction). recordBy (mendedFields (tabulate (indexIn (bitAt s)) 29) x)) case
           ∙ record-read (bitAt s) (bitAt-small s)
 
 -- the answers of writing, lowest refusal first

@@ -6,6 +6,7 @@ pub mod Number
 pub mod Packed
 pub mod Fields
 pub mod Mended
+pub mod Corrections
 pub mod Answered
 pub mod Readings
 pub mod Laws

@@ -22,8 +22,10 @@ use Rattle.laws.proofs.Bits.{fromBits-lt, fromBits-cong, same-bits, bit-xor, bi
 use Rattle.frame.specs.Places.{Name, fieldOf, bitOf, fieldAt, bitIn, bitsIn, placeOf}
 use Rattle.frame.specs.Places.Name.{HP}
 use Rattle.frame.specs.Parity.{guarded, guardedName, guardedPlace, check, numberOf, number, inverted, mended}
+use Rattle.frame.specs.Correction.{hitOf, correctionOf}
 use Rattle.frame.specs.Frame.{share, indexIn, recordOf}
-use Rattle.frame.specs.Steps.{guardedEntries, inverting, mendedFields, recordBy}
+use Rattle.frame.specs.Steps.{guardedEntries, mendedFields, recordBy}
+use Rattle.frame.specs.declared.Correction.the-variants.{Clean}
 use Rattle.frame.proofs.Fields.{index-small, index-bit, place-first, place-last, field-of-place, bit-of-place}
 use Rattle.frame.proofs.Number.{guardedBits}
 
@@ -74,11 +76,17 @@ module _ (n : ℕ) (a : 1 ≤ n) (h : n ≤ 15) where
   pub guarded-bit-small : guardedBit n < bitsIn (guardedField n)
   guarded-bit-small = sound-here .1
 
-  entry-field : getD guardedEntries (n - 1) 0 / 16 ≡ guardedField n
+  -- its entry has the field above
+  pub entry-field : getD guardedEntries (n - 1) 0 / 16 ≡ guardedField n
   entry-field = sound-here .2
 
-  entry-bit : getD guardedEntries (n - 1) 0 % 16 ≡ guardedBit n
+  -- and the bit below
+  pub entry-bit : getD guardedEntries (n - 1) 0 % 16 ≡ guardedBit n
   entry-bit = sound-here .3
+
+  -- no field has so many as sixteen bits
+  pub guarded-bit-short : guardedBit n < 16
+  guarded-bit-short = let e = entry-bit in omega (arith, e)
 
   -- the bit that its entry names, in a list of indices
   pub guarded-entry : (u : List ℕ) → guardedBits u n ≡ bit (getD u (guardedField n) 0) (guardedBit n)
@@ -261,42 +269,57 @@ module _ (b : ℕ → ℕ) (bits : (p : ℕ) → b p < 2) where
         getD-set-other v F f (bitXor (getD v F 0) (2 ^ K)) 0 e ∙ at-field f l
         ∙ away f (λ q p r o w. e (sym o ∙ ap fieldAt w ∙ field-of-guarded (number b) a h))
 
-  -- the mended list of indices holds the indices of the mended bits
-  pub mended-fields : (f : ℕ) → f < 29 → getD (mendedFields v (number b)) f 0 ≡ indexIn (mended b) f
-  unfolding mendedFields
-  mended-fields f l = go (ℕ-discrete (number b) 0)
+  -- in every field of the record the mended list of indices holds the index of the mended bits; the parity bits, which no
+  -- correction of the list changes, are not among them
+  pub mended-fields : (f : ℕ) → 1 ≤ f → f < 29 → getD (mendedFields v (correctionOf (number b))) f 0 ≡ indexIn (mended b) f
+  unfolding correctionOf
+  mended-fields f w l = go (ℕ-discrete (number b) 0)
     where
+      kept : ((q : ℕ) → 1 ≤ q → q ≤ 144 → fieldAt q ≡ f → q ≡ guardedPlace (number b) → ⊥)
+          → getD v f 0 ≡ indexIn (mended b) f
+      kept e = at-field f l ∙ away f e
+
+      hit : (one : 1 ≤ number b) → Dec (F one ≡ 0)
+          → getD (mendedFields v (hitOf (number b) (guardedName (number b)))) f 0 ≡ indexIn (mended b) f
+      hit one (yes e) =
+          rw (eq-eqb (F one) 0 e)
+          (kept (λ q p r o x. let z = sym o ∙ ap fieldAt x ∙ field-of-guarded (number b) one (h one) ∙ e in
+          omega (arith, z)))
+      hit one (no e) =
+          rw (
+            ne-eqb (F one) 0 e,
+            lt-ltb (F one) 29 (guarded-field-small (number b) one (h one)),
+            lt-ltb (K one) 16 (guarded-bit-short (number b) one (h one)),
+          )
+          (at-mended one f l (ℕ-discrete f (F one)))
+
       go : Dec (number b ≡ 0)
-          → getD (cond (eqb (number b) 0) v
-          (cond (ltb (number b) 16) (inverting v (getD guardedEntries (number b - 1) 0)) v)) f 0
+          → getD (mendedFields v (cond (eqb (number b) 0) Clean
+          (cond (ltb (number b) 16) (hitOf (number b) (guardedName (number b))) Clean))) f 0
           ≡ indexIn (mended b) f
-      go (yes e) = rw (eq-eqb (number b) 0 e) (at-field f l ∙ away f (λ q p r o w. none-at-zero e q p w))
+      go (yes e) = rw (eq-eqb (number b) 0 e) (kept (λ q p r o x. none-at-zero e q p x))
       go (no e) =
           rw (ne-eqb (number b) 0 e, lt-ltb (number b) 16 number-small)
-          (rw (entry-field (number b) one (h one), entry-bit (number b) one (h one))
-          (at-mended one f l (ℕ-discrete f (F one))))
-        where
-          one : 1 ≤ number b
-          one = omega (arith, e)
+          (hit (omega (arith, e)) (ℕ-discrete (F (omega (arith, e))) 0))
 
   -- so the record read is that of the mended bits
-  pub record-read : recordBy (mendedFields v (number b)) ≡ recordOf (mended b)
+  pub record-read : recordBy (mendedFields v (correctionOf (number b))) ≡ recordOf (mended b)
   record-read =
       λ i. record {
         lsp = parameters i;
         subframes = indices i;
-        sp = mended-fields 27 (omega arith) i;
-        sy = mended-fields 28 (omega arith) i;
+        sp = mended-fields 27 (omega arith) (omega arith) i;
+        sy = mended-fields 28 (omega arith) (omega arith) i;
       }
     where
-      parameters : tabulate (λ k. getD (mendedFields v (number b)) (k + 1) 0) 10
+      parameters : tabulate (λ k. getD (mendedFields v (correctionOf (number b))) (k + 1) 0) 10
           ≡ tabulate (λ k. indexIn (mended b) (k + 1)) 10
       parameters =
-          tabulate-cong (λ k. getD (mendedFields v (number b)) (k + 1) 0) (λ k. indexIn (mended b) (k + 1)) 10
-          (λ k l. mended-fields (k + 1) (omega arith))
+          tabulate-cong (λ k. getD (mendedFields v (correctionOf (number b))) (k + 1) 0) (λ k. indexIn (mended b) (k + 1)) 10
+          (λ k l. mended-fields (k + 1) (omega arith) (omega arith))
 
-      indices : tabulate (λ k. getD (mendedFields v (number b)) (k + 11) 0) 16
+      indices : tabulate (λ k. getD (mendedFields v (correctionOf (number b))) (k + 11) 0) 16
           ≡ tabulate (λ k. indexIn (mended b) (k + 11)) 16
       indices =
-          tabulate-cong (λ k. getD (mendedFields v (number b)) (k + 11) 0) (λ k. indexIn (mended b) (k + 11)) 16
-          (λ k l. mended-fields (k + 11) (omega arith))
+          tabulate-cong (λ k. getD (mendedFields v (correctionOf (number b))) (k + 11) 0) (λ k. indexIn (mended b) (k + 11)) 16
+          (λ k l. mended-fields (k + 11) (omega arith) (omega arith))

@@ -7,16 +7,14 @@ use Prim.Native.Nat.{ℕ, zero, suc, _+_, _-_, _*_, _/_, _%_, _^_, _<_, _≤_}
 use native.Mathlib.Omega.{arith}
 use lib.Dec.{ltb, ltb→lt}
 use lib.Bits.{bitXor, xor-lt}
-use lib.ListN.{getD, set}
-use borrow.Author.Tests.{eq-eqb, ne-eqb, le-ltb, lt-ltb}
-use lib.Pow.{shl-exact}
-use native.Mathlib.Nat.{one-mul, mul-one, mul-zero}
+use lib.ListN.{getD}
+use native.Mathlib.Nat.{mul-one, mul-zero}
 use Rattle.laws.specs.Total.{total, bit, fromBits}
 use Rattle.laws.proofs.Table.{at}
 use Rattle.laws.proofs.Total.{total-more}
 use Rattle.laws.proofs.Bits.{fromBits-lt, bit-fromBits, same-bits, bit-xor, bit-zero}
 use Rattle.frame.specs.Parity.{numberOf}
-use Rattle.frame.specs.Steps.{guardedEntries, bitOfEntry, mendedFields}
+use Rattle.frame.specs.Steps.{guardedEntries, bitOfEntry}
 use Rattle.frame.proofs.Places.{next}
 
 -- each guarded bit is in one of the 29
@@ -106,38 +104,3 @@ module _ (t : List ℕ) (same : t ≡ guardedEntries) (n : ℕ) where
 -- the next number, taken once or not at all, is small
 pub taken-room : (n x : ℕ) → n < 15 → (n + 1) * (x % 2) < 2 ^ 64
 taken-room n x h = let s = taken-small (n + 1) (x % 2) (omega arith) (omega arith) in omega (arith, s)
-
--- one bit shifted to its place
-pub shifted-one : (k : ℕ) → k < 16 → 1 * 2 ^ k % 65536 ≡ 2 ^ k
-shifted-one k h = shl-exact 1 k 16 (omega arith) (omega arith) ∙ one-mul (2 ^ k)
-
--- 0 inverts none
-pub mended-none : (v : List ℕ) (n : ℕ) → n ≡ 0 → v ≡ mendedFields v n
-unfolding mendedFields
-mended-none v n e = rw (eq-eqb n 0 e)
-
--- a number that is not 0, as the code mends it
-module _ (n : ℕ) (e : n ≡ 0 → ⊥) where
-  -- one over 15 inverts none
-  pub mended-beyond : (v : List ℕ) → 15 < n → v ≡ mendedFields v n
-  unfolding mendedFields
-  mended-beyond v h = rw (ne-eqb n 0 e, le-ltb n 16 (omega arith))
-
-  -- of any other, by the code's list t of entries
-  module _ (t : List ℕ) (same : t ≡ guardedEntries) (h : n ≤ 15) where
-    -- the bit that the entry of n names is inverted
-    pub mended-one : (v : List ℕ)
-        → set v (getD t (n - 1) 0 / 16)
-        (bitXor (getD v (getD t (n - 1) 0 / 16) 0) (1 * 2 ^ (getD t (n - 1) 0 % 16) % 65536)) ≡ mendedFields v n
-    unfolding mendedFields
-    mended-one v =
-        rw (
-          same,
-          ne-eqb n 0 e,
-          lt-ltb n 16 (omega arith),
-          shifted-one (getD guardedEntries (n - 1) 0 % 16) (omega arith),
-        )
-
-    -- and is in one of the 29
-    pub mended-field : getD t (n - 1) 0 / 16 < 29
-    mended-field = rw same (guarded-field (n - 1) (omega arith))

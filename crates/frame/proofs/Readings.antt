@@ -1,7 +1,7 @@
 -- What is read in any bytes is in range: the indices fit their fields, the correction number is below 16, the order
 -- mark at most 9.
 -- Assumes nothing.
-use mathlib.Core.Path.{_≡_, sym, refl, subst}
+use mathlib.Core.Path.{_≡_, sym, refl, ap, subst}
 use mathlib.Core.List.{List}
 use Prim.Native.Nat.{ℕ, _<_, _≤_}
 use native.Mathlib.Omega.{arith}
@@ -16,11 +16,13 @@ use Rattle.lsp.specs.Table.{hertzOf}
 use Rattle.lsp.proofs.Laws.{mark-most}
 use Rattle.frame.specs.Frame.{bitAt, recordOf}
 use Rattle.frame.specs.Parity.{number, mended}
-use Rattle.frame.specs.Answers.{recordMark, noRecord, readingOf}
+use Rattle.frame.specs.Correction.{correctionOf}
+use Rattle.frame.specs.Answers.{recordMark, noRecord, readingOf, correctionNumber}
 use Rattle.frame.specs.declared.Reading.{Reading}
 use Rattle.frame.proofs.Fields.{index-small}
 use Rattle.frame.proofs.Gathered.{bitAt-small}
 use Rattle.frame.proofs.Mended.{mended-bits}
+use Rattle.frame.proofs.Corrections.{number-of-correction, clean-at-zero}
 use Rattle.frame.proofs.Answered.{read-eighteen, read-refused}
 use Rattle.frame.proofs.Laws.{index-of-record, bits-width, number-below}
 
@@ -33,7 +35,7 @@ record-fits b bits =
 -- what holds of a reading, whether the bytes were a frame or not
 pub record InRange (r : Reading) : Type 0 where
   pub fits : tooLarge (r .indices) ≡ 0
-  pub numbered : r .number < 16
+  pub numbered : correctionNumber r < 16
   pub marked : r .mark ≤ 9
 
 -- an order mark is at most 9
@@ -55,12 +57,24 @@ reading-range f = go (ℕ-discrete (length f) 18)
         rw (read-eighteen f e)
         (record {
           fits = record-fits (mended (bitAt f)) (mended-bits (bitAt f) (bitAt-small f));
-          numbered = number-below (bitAt f);
+          numbered = rw (number-of-correction (number (bitAt f)) (number-below (bitAt f))) (number-below (bitAt f));
           marked = record-mark-most (recordOf (mended (bitAt f)));
         })
     go (no w) =
         subst (λ (r : Reading). InRange r) (read-refused f w)
         (record { fits = no-record-fits; numbered = omega arith; marked = omega arith })
+
+-- the correction is the case of its number
+pub reading-case : (f : List ℕ) → readingOf f .correction ≡ correctionOf (correctionNumber (readingOf f))
+reading-case f = go (ℕ-discrete (length f) 18)
+  where
+    go : Dec (length f ≡ 18) → readingOf f .correction ≡ correctionOf (correctionNumber (readingOf f))
+    go (yes e) =
+        rw (read-eighteen f e)
+        (ap correctionOf (sym (number-of-correction (number (bitAt f)) (number-below (bitAt f)))))
+    go (no w) =
+        subst (λ (r : Reading). r .correction ≡ correctionOf (correctionNumber r)) (read-refused f w)
+        (clean-at-zero 0 refl)
 
 -- so SY is one bit
 pub reading-sync : (f : List ℕ) → readingOf f .indices .sy < 2

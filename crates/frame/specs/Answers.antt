@@ -9,7 +9,9 @@ use Rattle.record.specs.declared.Record.{Record}
 use Rattle.lsp.specs.Table.{hertzOf}
 use Rattle.lsp.specs.Order.{markOf}
 use Rattle.frame.specs.Parity.{number, mended}
+use Rattle.frame.specs.Correction.{correctionOf, numberOfCase}
 use Rattle.frame.specs.Frame.{bitAt, recordOf, frameOf}
+use Rattle.frame.specs.declared.Correction.the-variants as Correction
 use Rattle.frame.specs.declared.Verdict.{Verdict}
 use Rattle.frame.specs.declared.Verdict.the-variants as Verdict
 use Rattle.frame.specs.declared.Reading.{Reading}
@@ -24,25 +26,28 @@ recordMark r = markOf (hertzOf (r .lsp) .hz)
 abbrev pub noRecord : Record
 noRecord = recordWith (λ i. 0)
 
--- what is read in the bits b of a frame: the record after correction, the correction number, the order mark
+-- what is read in the bits b of a frame: the record after correction, what correction did, the order mark
 abbrev pub readIn : (ℕ → ℕ) → Reading
 readIn b =
     record {
       verdict = Verdict.Read;
       indices = recordOf (mended b);
-      number = number b;
+      correction = correctionOf (number b);
       mark = recordMark (recordOf (mended b));
     }
+
+-- what there is where nothing was read
+abbrev pub notRead : Reading
+notRead = record { verdict = Verdict.WrongLength; indices = noRecord; correction = Correction.Clean; mark = 0 }
 
 -- any bytes; a frame that is not eighteen of them is refused, and nothing is read then
 unfoldable pub readingOf : List ℕ → Reading
 readingOf s =
-    unless (eqb (length s) 18) (record { verdict = Verdict.WrongLength; indices = noRecord; number = 0; mark = 0 })
-    (readIn (bitAt s))
+    unless (eqb (length s) 18) notRead (readIn (bitAt s))
 
 -- the correction number of a reading; 0 where the frame was refused
 abbrev pub correctionNumber : Reading → ℕ
-correctionNumber r = r .number
+correctionNumber r = numberOfCase (r .correction)
 
 -- what a record to write gets, given the length of the lent buffer: lowest refusal number first
 unfoldable pub writtenOf : Record → ℕ → Written

@@ -1,5 +1,6 @@
 pub mod Places
 pub mod Parity
+pub mod Correction
 pub mod Frame
 pub mod Answers
 pub mod Steps

@@ -12,6 +12,8 @@ use Rattle.record.specs.declared.Record.{Record}
 use Rattle.frame.specs.Places.{Name, places, fieldOf, bitOf}
 use Rattle.frame.specs.Parity.{guarded, numberOf}
 use Rattle.frame.specs.Frame.{share}
+use Rattle.frame.specs.declared.Correction.{Correction}
+use Rattle.frame.specs.declared.Correction.the-variants.{Clean, Parity, Data}
 
 -- a name as one number, the field above its bit
 abbrev pub entryOf : Name → ℕ
@@ -38,13 +40,15 @@ guardedIn v n = bitOfEntry v (getD guardedEntries (n - 1) 0)
 abbrev pub numberIn : List ℕ → ℕ
 numberIn v = numberOf (guardedIn v)
 
--- the indices with the bit that an entry names inverted
-abbrev pub inverting : List ℕ → ℕ → List ℕ
-inverting v e = set v (e / 16) (bitXor (getD v (e / 16) 0) (2 ^ (e % 16)))
+-- the indices with bit i of field f inverted; where there is no such bit in the list, as they are
+abbrev pub inverting : List ℕ → ℕ → ℕ → List ℕ
+inverting v f i = cond (ltb f 29) (cond (ltb i 16) (set v f (bitXor (getD v f 0) (2 ^ i))) v) v
 
--- the indices with the bit of correction number n inverted; 0 inverts none, and neither does a number that no bit has
-unfoldable pub mendedFields : List ℕ → ℕ → List ℕ
-mendedFields v n = cond (eqb n 0) v (cond (ltb n 16) (inverting v (getD guardedEntries (n - 1) 0)) v)
+-- the indices after a correction: a data hit inverts the bit that it names, and nothing else changes any
+abbrev pub mendedFields : List ℕ → Correction → List ℕ
+mendedFields v Clean = v
+mendedFields v (Parity n) = v
+mendedFields v (Data f i) = inverting v f i
 
 -- the record of a list of indices by field, and back, the parity bits 0
 abbrev pub recordBy : List ℕ → Record

@@ -3,7 +3,6 @@
 // field number, the four parity bits HP-0 to HP-3 under 0.
 use record::Record;
 ghost use mathlib.Core.Path.{_≡_};
-ghost use Rattle.frame.specs.Answers.{correctionNumber};
 ghost use Rattle.frame.specs.Steps.{entries};
 
 // Whether a frame was read. (Refusal 1: it was not eighteen bytes.)
@@ -12,21 +11,20 @@ pub enum Verdict {
     WrongLength,
 }
 
-// What is read in a frame: the record after correction, the correction number and the order mark; all 0 where it was refused.
+// What correction did in a frame: nothing; a parity bit was hit, with its correction number, and no index changed; a data bit was
+// inverted, with its field and its bit there. `parity` has the number of each case.
+pub enum Correction {
+    Clean,
+    Parity(usize),
+    Data(usize, usize),
+}
+
+// What is read in a frame: the record after correction, what correction did, and the order mark; all 0 and clean where it was refused.
 pub struct Reading {
     pub verdict: Verdict,
     pub indices: Record,
-    pub number: usize,
+    pub correction: Correction,
     pub mark: usize,
-}
-
-impl Reading {
-    // The correction number of what was read.
-    pub fn correction_number(self) -> usize
-        ensures { λ n. ⌜ n ≡ correctionNumber self ⌝ }
-    {
-        self.number
-    }
 }
 
 // What a record to write gets: the frame, or the refusal with what it tells.

@@ -1,6 +1,6 @@
 -- The returns of the two functions for C: what was computed is what the definitions say, the result and the buffer.
 -- Assumes nothing.
-use mathlib.Core.Path.{_≡_, _∙_, sym, refl, ap}
+use mathlib.Core.Path.{_≡_, _∙_, sym, refl, ap, ap₂}
 use mathlib.Core.Bool.{Bool, true, false}
 use mathlib.Core.List.{List}
 use Prim.Native.Nat.{ℕ, _+_, _*_, _^_, _<_}
@@ -19,7 +19,7 @@ use Rattle.frame.specs.declared.Written.{Written}
 use Rattle.pairs.specs.Pairs.{takenOf}
 use Rattle.pairs.specs.declared.Taken.{Taken}
 use Rattle.pairs.proofs.Whole.{Puts, was-put, was-not, was-taken, was-wrong}
-use Rattle.gateway.specs.Results.{refused, readResult, recordLeft, writeResult, frameLeftBy}
+use Rattle.gateway.specs.Results.{refused, kindOf, resultOf, readResult, recordLeft, writeResult, frameLeftBy}
 use Rattle.gateway.proofs.Ranges.{reading-small}
 
 -- the answer of the reader: the result z and what the record's buffer holds
@@ -50,18 +50,21 @@ module _ (s o : List ℕ) where
     not-put p f = let w = was-not (a .indices) o p f in
         (wrong-record (w .0) .0, w .1 ∙ wrong-record (w .0) .1)
 
-    -- the mark and the correction number n of what was read are told, and its record put
-    pub was-read : {n : ℕ} {b : Bool} {next : List ℕ} → a .verdict ≡ Verdict.Read → n ≡ correctionNumber a
-        → Puts (a .indices) o b next → b ≡ true
-        → Reads s o (toZ w32 (16 * a .mark + n)) next
+    -- the mark, the correction number n and what the kind adds, k, are told of what was read, and its record put
+    pub was-read : {n k : ℕ} {b : Bool} {next : List ℕ} → a .verdict ≡ Verdict.Read → n ≡ correctionNumber a
+        → k ≡ kindOf (a .correction) → Puts (a .indices) o b next → b ≡ true
+        → Reads s o (toZ w32 (16 * a .mark + n + k)) next
     unfolding readResult recordLeft
-    was-read {n} v numbered p t =
+    was-read {n} {k} v numbered added p t =
         let w = was-put (a .indices) o p t in
         rw (eq-eqb (length o) 56 (w .0), ← is, v)
-        (toZ-pos w32 small ∙ ap (λ (k : ℕ). pos (16 * a .mark + k)) numbered, w .1)
+        (toZ-pos w32 small ∙ ap pos whole, w .1)
       where
-        small : 16 * a .mark + n < 2 ^ 31
-        small = rw (numbered, is) (let h = reading-small s in omega (arith, h))
+        whole : 16 * a .mark + n + k ≡ resultOf a
+        whole = ap₂ (λ (x y : ℕ). 16 * a .mark + x + y) numbered added
+
+        small : 16 * a .mark + n + k < 2 ^ 31
+        small = rw (whole, is) (let h = reading-small s in omega (arith, h))
 
 -- the answer of the writer
 abbrev pub Writes : List ℕ → List ℕ → ℤ → List ℕ → Type 0

@@ -6,6 +6,8 @@ use lib.IntN.{ℤ, pos, negℤ}
 use lib.ListN.{length}
 use Rattle.laws.specs.Unless.{unless}
 use Rattle.frame.specs.Answers.{readingOf, correctionNumber, writtenOf, frameLeft, readRefusal, refusalOf}
+use Rattle.frame.specs.declared.Correction.{Correction}
+use Rattle.frame.specs.declared.Correction.the-variants.{Clean, Parity, Data}
 use Rattle.frame.specs.declared.Reading.{Reading}
 use Rattle.frame.specs.declared.Verdict.the-variants as Verdict
 use Rattle.frame.specs.declared.Written.{Written}
@@ -16,11 +18,18 @@ use Rattle.pairs.specs.Pairs.{bytesOf, recordIn}
 abbrev pub refused : ℕ → ℤ
 refused n = negℤ (pos n)
 
--- the reader's result: 16 times the order mark plus the correction number, or the refusal
+-- "the C reader's result grows by 256 for a parity hit and 512 for a data hit" (document 02, K5)
+abbrev pub kindOf : Correction → ℕ
+kindOf Clean = 0
+kindOf (Parity n) = 256
+kindOf (Data f i) = 512
+
+-- the reader's result: 16 times the order mark plus the correction number, and what its kind adds; or the refusal
+abbrev pub resultOf : Reading → ℕ
+resultOf a = 16 * a .mark + correctionNumber a + kindOf (a .correction)
+
 abbrev pub readAnswer : Reading → ℤ
-readAnswer a =
-    unless (eqb (readRefusal (a .verdict)) 0) (refused (readRefusal (a .verdict)))
-    (pos (16 * a .mark + correctionNumber a))
+readAnswer a = unless (eqb (readRefusal (a .verdict)) 0) (refused (readRefusal (a .verdict))) (pos (resultOf a))
 
 -- of a frame and the length of the buffer for the record
 unfoldable pub readResult : List ℕ → ℕ → ℤ

@@ -1,5 +1,6 @@
 // The line of each frame.
 use crate::line;
+use frame::Correction;
 use frame::Reading;
 use passes::Hearing;
 use values::LastSy;
@@ -34,7 +35,7 @@ fn one(k: u32, hearing: Hearing) -> bool {
     line::written(&mut out, end)
 }
 
-// The 28 indices, the correction number and the order mark.
+// The 28 indices, the correction and the order mark.
 fn read_in(out: &mut [u8; 1024], at: usize, reading: Reading) -> usize {
     let indices = reading.indices;
     let lsp = indices.lsp;
@@ -43,8 +44,25 @@ fn read_in(out: &mut [u8; 1024], at: usize, reading: Reading) -> usize {
     let third = shorts(out, second, &subframes);
     let fourth = line::number(out, third, indices.sp as u64);
     let fifth = line::number(out, fourth, indices.sy as u64);
-    let number = line::told(out, fifth, b" number", reading.correction_number() as u64);
-    line::told(out, number, b" mark", reading.mark as u64)
+    let correction = reading.correction;
+    let next = corrected(out, fifth, correction);
+    line::told(out, next, b" mark", reading.mark as u64)
+}
+
+// The correction number and its letter, and for a data hit the field and the bit.
+fn corrected(out: &mut [u8; 1024], at: usize, correction: Correction) -> usize {
+    let number = line::told(out, at, b" number", parity::number_for(correction) as u64);
+    match correction {
+        Correction::Clean => text::put_word(out, number, b" c"),
+        Correction::Parity(_) => text::put_word(out, number, b" p"),
+        Correction::Data(f, i) => inverted(out, number, f, i),
+    }
+}
+
+// A data bit that was inverted.
+fn inverted(out: &mut [u8; 1024], at: usize, f: usize, i: usize) -> usize {
+    let field = line::told(out, at, b" d", f as u64);
+    line::number(out, field, i as u64)
 }
 
 // The values, or the refusal.

@@ -1,9 +1,16 @@
 -- The lines: the text of each form with its numbers is that line.
 -- Assumes nothing.
-use mathlib.Core.Path.{_≡_, _∙_, sym, refl, ap}
-use mathlib.Core.List.{List, [], _∷_, _++_, append-assoc, append-nil}
-use Prim.Native.Nat.{ℕ}
-use borrow.Author.Tests.{eq-eqb, ne-eqb}
+use mathlib.Core.Path.{_≡_, _∙_, sym, refl, ap, ap₂}
+use mathlib.Core.Bool.{false}
+use mathlib.Core.List.{List, [], _∷_, _++_, append-assoc}
+use Prim.Native.Nat.{ℕ, _≤_}
+use borrow.Author.Tests.{eq-eqb, ne-eqb, le-ltb}
+use lib.Dec.{ltb}
+use lib.ListN.{getD}
+use native.Mathlib.Omega.{arith}
+use Rattle.frame.specs.Correction.{numberOfCase}
+use Rattle.frame.specs.declared.Correction.{Correction}
+use Rattle.frame.specs.declared.Correction.the-variants.{Clean, Parity, Data}
 use Rattle.blocks.specs.Refusals.{refusalOf, toldOf}
 use Rattle.blocks.specs.Walk.{longest}
 use Rattle.blocks.specs.declared.Cause.{Cause}
@@ -12,8 +19,8 @@ use Rattle.blocks.specs.declared.Told.{Told}
 use Rattle.blocks.specs.declared.Told.the-variants.{Nothing}
 use Rattle.text.specs.Ascii.{ascii}
 use Rattle.text.specs.Decimal.{decimal}
-use Rattle.lines.specs.Lines.{pairLine, headLine, fields, restOf, frameLine, lastLine, numbersShown}
-use Rattle.lines.specs.Lines.{refusalLine, refusedLine, lineOf}
+use Rattle.lines.specs.Lines.{pairLine, headLine, fields, letterOf, corrected, restOf, frameLine, lastLine}
+use Rattle.lines.specs.Lines.{numbersShown, refusalLine, refusedLine, lineOf}
 use Rattle.lines.specs.Forms.{filledIn}
 use Rattle.lines.specs.declared.Line.{Line}
 use Rattle.lines.specs.declared.Said.{Said}
@@ -105,27 +112,78 @@ pub shows-refused : (cause : Cause) {number : ℕ} {t : Told} {text : List ℕ} 
 unfolding refusedLine
 shows-refused cause n t s = rw (sym n, sym t) s
 
--- the returns of `frame`
-module _ (x : Said) where
+-- the letters as bytes
+abbrev byteOf : Correction → ℕ
+byteOf Clean = 99
+byteOf (Parity n) = 112
+byteOf (Data f i) = 100
+
+-- each is its letter
+letter-byte : (c : Correction) → byteOf c ∷ [] ≡ letterOf c
+letter-byte Clean = refl
+letter-byte (Parity n) = refl
+letter-byte (Data f i) = refl
+
+-- the returns of `letter_of`: the correction is one of its cases
+pub letter-told : (c : Correction) {d : Correction} {letter : ℕ} → c ≡ d → letter ≡ byteOf d → letter ∷ [] ≡ letterOf c
+letter-told c {d} e w = ap (λ (b : ℕ). b ∷ []) w ∙ letter-byte d ∙ ap letterOf (sym e)
+
+-- no letter is one of the bytes that stand for a number
+letter-large : (c : Correction) {letter : ℕ} → letter ∷ [] ≡ letterOf c → 8 ≤ letter
+letter-large c {letter} e = go c (ap (λ (l : List ℕ). getD l 0 0) e)
+  where
+    go : (d : Correction) → letter ≡ getD (letterOf d) 0 0 → 8 ≤ letter
+    go Clean w = omega (arith, w)
+    go (Parity n) w = omega (arith, w)
+    go (Data f i) w = omega (arith, w)
+
+-- the returns of `frame`, by the letter and the number that were asked for
+module _ (x : Said) {letter n : ℕ} (lettered : letter ∷ [] ≡ letterOf (x .correction))
+    (numbered : n ≡ numberOfCase (x .correction)) where
+  -- so it stands for itself
+  shown : ltb letter 8 ≡ false
+  shown = le-ltb letter 8 (letter-large (x .correction) lettered)
+
+  -- the line of the frame with a text after its letter
+  abbrev line : List ℕ → List ℕ
+  line t = decimal (x .number) ++ (ascii " " ++ (decimal n ++ (ascii " " ++ (letter ∷ t))))
+
+  -- it is that with the rest
+  line-is : frameLine x ≡ line (restOf x ++ ascii "\n")
+  unfolding frameLine corrected spaced
+  line-is =
+      let c = fields (numberOfCase (x .correction) ∷ []) in
+      let l = letterOf (x .correction) in
+      let r = restOf x ++ ascii "\n" in
+      append-assoc (decimal (x .number) ++ corrected (x .correction)) (restOf x) (ascii "\n")
+      ∙ append-assoc (decimal (x .number)) (corrected (x .correction)) r
+      ∙ ap (λ (t : List ℕ). decimal (x .number) ++ t)
+      (append-assoc (c ++ ascii " ") l r ∙ append-assoc c (ascii " ") (l ++ r)
+      ∙ spaced-out (numberOfCase (x .correction) ∷ []) (ascii " " ++ (l ++ r)))
+      ∙ ap₂ (λ (m : ℕ) (k : List ℕ). decimal (x .number) ++ (ascii " " ++ (decimal m ++ (ascii " " ++ (k ++ r)))))
+      (sym numbered) (sym lettered)
+
   -- of a frame that is refused the refusal is said
   pub said-refused : (x .refusal ≡ 0 → ⊥)
-      → filledIn (three (x .number) (x .correction) (x .refusal)) (ascii "\0 \u{1} refused \u{2}\n") ≡ frameLine x
-  unfolding filledIn frameLine restOf fields
-  said-refused w = rw (ne-eqb (x .refusal) 0 w) (simp (append-assoc, append-nil))
+      → filledIn (three (x .number) n (x .refusal)) (0 ∷ 32 ∷ 1 ∷ 32 ∷ letter ∷ ascii " refused \u{2}\n") ≡ frameLine x
+  unfolding filledIn restOf
+  said-refused w = rw shown (sym (line-is ∙ ap line rest))
+    where
+      rest : restOf x ++ ascii "\n" ≡ ascii " refused " ++ (decimal (x .refusal) ++ ascii "\n")
+      rest = rw (ne-eqb (x .refusal) 0 w) (append-assoc (ascii " refused ") (decimal (x .refusal)) (ascii "\n"))
 
   -- of one that is heard its numbers
   pub said-heard : x .refusal ≡ 0
-      → filledIn
-      (x .number ∷ x .correction ∷ x .mark ∷ x .sy ∷ x .first ∷ x .second ∷ x .third ∷ x .fourth ∷ [])
-      (ascii "\0 \u{1} \u{2} \u{3} \u{4} \u{5} \u{6} \u{7}\n") ≡ frameLine x
-  unfolding filledIn frameLine restOf spaced
-  said-heard z =
-      let ms = x .mark ∷ x .sy ∷ x .first ∷ x .second ∷ x .third ∷ x .fourth ∷ [] in
-      sym (rw (eq-eqb (x .refusal) 0 z)
-      (append-assoc (decimal (x .number) ++ fields (x .correction ∷ [])) (fields ms) (ascii "\n")
-      ∙ append-assoc (decimal (x .number)) (fields (x .correction ∷ [])) (fields ms ++ ascii "\n")
-      ∙ ap (λ (t : List ℕ). decimal (x .number) ++ t) (spaced-out (x .correction ∷ []) (fields ms ++ ascii "\n")
-      ∙ ap (spaced (x .correction ∷ [])) (spaced-out ms (ascii "\n")))))
+      → filledIn (x .number ∷ n ∷ x .mark ∷ x .sy ∷ x .first ∷ x .second ∷ x .third ∷ x .fourth ∷ [])
+      (0 ∷ 32 ∷ 1 ∷ 32 ∷ letter ∷ ascii " \u{2} \u{3} \u{4} \u{5} \u{6} \u{7}\n") ≡ frameLine x
+  unfolding filledIn restOf spaced
+  said-heard z = rw shown (sym (line-is ∙ ap line rest))
+    where
+      ms : List ℕ
+      ms = x .mark ∷ x .sy ∷ x .first ∷ x .second ∷ x .third ∷ x .fourth ∷ []
+
+      rest : restOf x ++ ascii "\n" ≡ spaced ms (ascii "\n")
+      rest = rw (eq-eqb (x .refusal) 0 z) (spaced-out ms (ascii "\n"))
 
 -- the returns of `form_of`: the line is one of its cases
 pub shows-line : (line : Line) {one : Line} {text : List ℕ} → line ≡ one → text ≡ lineOf one → text ≡ lineOf line

@@ -1,9 +1,12 @@
--- The lines of a listing (document 01, "The listing program"). Fields are one space apart and each line ends in a
--- newline.
+-- The lines of a listing (document 01, "The listing program"; document 02, K5). Fields are one space apart and each line
+-- ends in a newline.
 use mathlib.Core.Bool.{cond}
 use mathlib.Core.List.{List, [], _∷_, _++_}
 use Prim.Native.Nat.{ℕ}
 use lib.Dec.{eqb}
+use Rattle.frame.specs.Correction.{numberOfCase}
+use Rattle.frame.specs.declared.Correction.{Correction}
+use Rattle.frame.specs.declared.Correction.the-variants.{Clean, Parity, Data}
 use Rattle.blocks.specs.Walk.{longest}
 use Rattle.blocks.specs.Refusals.{refusalOf, toldOf}
 use Rattle.blocks.specs.declared.Cause.{Cause}
@@ -33,15 +36,24 @@ unfoldable pub fields : List ℕ → List ℕ
 fields [] = []
 fields (n ∷ ns) = ascii " " ++ decimal n ++ fields ns
 
--- after the correction number: order mark, SY, four delays in twelfths; or the refusal, where there is one (not 0)
+-- "the correction number keeps its place and a letter follows it as a field of its own: `c`, `p` or `d`" (document 02, K5)
+abbrev pub letterOf : Correction → List ℕ
+letterOf Clean = ascii "c"
+letterOf (Parity n) = ascii "p"
+letterOf (Data f i) = ascii "d"
+
+unfoldable pub corrected : Correction → List ℕ
+corrected c = fields (numberOfCase c ∷ []) ++ ascii " " ++ letterOf c
+
+-- after that: order mark, SY, four delays in twelfths; or the refusal, where there is one (not 0)
 unfoldable pub restOf : Said → List ℕ
 restOf x =
     cond (eqb (x .refusal) 0) (fields (x .mark ∷ x .sy ∷ x .first ∷ x .second ∷ x .third ∷ x .fourth ∷ []))
     (told (ascii " refused ") (x .refusal))
 
--- a line for each frame: frame number, correction number, and the rest
+-- a line for each frame: frame number, correction number with its letter, and the rest
 unfoldable pub frameLine : Said → List ℕ
-frameLine x = decimal (x .number) ++ fields (x .correction ∷ []) ++ restOf x ++ ascii "\n"
+frameLine x = decimal (x .number) ++ corrected (x .correction) ++ restOf x ++ ascii "\n"
 
 -- last line: repaired frames and sync breaks
 unfoldable pub lastLine : ℕ → ℕ → List ℕ

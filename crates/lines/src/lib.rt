@@ -3,17 +3,19 @@
 use blocks::Cause;
 use blocks::Heading;
 use blocks::Told;
+use frame::Correction;
 ghost use mathlib.Core.Path.{_≡_};
 ghost use mathlib.Core.List.{[], _∷_};
 ghost use Rattle.text.specs.Laid.{laid, after};
-ghost use Rattle.lines.specs.Lines.{headLine, frameLine, lastLine, numbersShown, refusalLine, refusedLine, lineOf};
+ghost use Rattle.lines.specs.Lines.{headLine, letterOf, frameLine, lastLine, numbersShown};
+ghost use Rattle.lines.specs.Lines.{refusalLine, refusedLine, lineOf};
 ghost use Rattle.lines.specs.Forms.{formText};
 
-// What is said of a frame: its number, its correction number, and its order mark, SY and four delays; or, where it is not 0, the
+// What is said of a frame: its number, what correction did, and its order mark, SY and four delays; or, where it is not 0, the
 // refusal of its values.
 pub struct Said {
     pub number: u32,
-    pub correction: usize,
+    pub correction: Correction,
     pub refusal: u32,
     pub mark: usize,
     pub sy: u16,
@@ -97,21 +99,27 @@ fn frame(said: Said) -> Form
     ensures { λ r. ⌜ formText r ≡ frameLine said ⌝ }
 {
     let number = said.number as u64;
-    let correction = said.correction as u64;
+    let correction = said.correction;
+    let corrected = parity::number_for(correction) as u64;
+    let letter = letter_of(correction);
     let refusal = said.refusal as u64;
     if refusal != 0 {
+        let mut bytes = *b"\x00 \x01 . refused \x02\n            ";
+        bytes[4] = letter;
         return Form {
-            bytes: *b"\x00 \x01 refused \x02\n              ",
-            size: 14,
-            numbers: [number, correction, refusal, 0, 0, 0, 0, 0],
+            bytes,
+            size: 16,
+            numbers: [number, corrected, refusal, 0, 0, 0, 0, 0],
         };
     }
+    let mut bytes = *b"\x00 \x01 . \x02 \x03 \x04 \x05 \x06 \x07\n          ";
+    bytes[4] = letter;
     Form {
-        bytes: *b"\x00 \x01 \x02 \x03 \x04 \x05 \x06 \x07\n            ",
-        size: 16,
+        bytes,
+        size: 18,
         numbers: [
             number,
-            correction,
+            corrected,
             said.mark as u64,
             said.sy as u64,
             said.first as u64,
@@ -119,6 +127,17 @@ fn frame(said: Said) -> Form
             said.third as u64,
             said.fourth as u64,
         ],
+    }
+}
+
+// The letter of a correction: clean, a parity bit hit, a data bit inverted.
+fn letter_of(correction: Correction) -> u8
+    ensures { λ r. ⌜ r ∷ [] ≡ letterOf correction ⌝ }
+{
+    match correction {
+        Correction::Clean => b'c',
+        Correction::Parity(_) => b'p',
+        Correction::Data(_, _) => b'd',
     }
 }
 

@@ -5,7 +5,6 @@ use mathlib.Core.List.{List, [], _++_}
 use Prim.Native.Nat.{ℕ, suc, _≤_}
 use native.Mathlib.Omega.{arith}
 use lib.ListN.{length, getD}
-use Rattle.frame.specs.Answers.{correctionNumber}
 use Rattle.values.specs.Outcome as values
 use Rattle.values.specs.declared.State.{State}
 use Rattle.blocks.specs.Frames.{framesOf}
@@ -27,12 +26,12 @@ pub record Listing (before : State) (s o : List ℕ) (start : ℕ) (o′ : List 
   pub passing : Passing before s p
   pub put : Put o start (linesTo before (framesOf s) (p .frames)) end o′
 
--- what is said of frame n by the two numbers that were asked for
-abbrev saidBy : ℕ → Hearing → ℕ → ℕ → Said
-saidBy n h correction refusal =
+-- what is said of frame n by the refusal that was asked for
+abbrev saidBy : ℕ → Hearing → ℕ → Said
+saidBy n h refusal =
     record {
       number = n;
-      correction = correction;
+      correction = h .reading .correction;
       refusal = refusal;
       mark = h .reading .mark;
       sy = h .reading .indices .sy;
@@ -43,10 +42,9 @@ saidBy n h correction refusal =
     }
 
 -- the return of `said`
-pub said-of : (n : ℕ) (h : Hearing) {refusal correction : ℕ} → refusal ≡ values.refusalOf (h .values .outcome)
-    → correction ≡ correctionNumber (h .reading)
-    → saidBy n h correction refusal ≡ saidOf n h
-said-of n h p q = λ i. saidBy n h (q i) (p i)
+pub said-of : (n : ℕ) (h : Hearing) {refusal : ℕ} → refusal ≡ values.refusalOf (h .values .outcome)
+    → saidBy n h refusal ≡ saidOf n h
+said-of n h p = λ i. saidBy n h (p i)
 
 -- no line
 lines-none : (before : State) (frames : List (List ℕ)) → [] ≡ linesTo before frames 0

@@ -2,7 +2,7 @@
 -- Assumes nothing.
 use mathlib.Core.Path.{_≡_, _∙_, sym, refl, ap}
 use mathlib.Core.Bool.{Bool, true, false, cond}
-use mathlib.Core.List.{List, _++_, append-assoc}
+use mathlib.Core.List.{List, [], _∷_, _++_, append-assoc, append-nil}
 use Prim.Native.Nat.{ℕ, _≤_}
 use native.Mathlib.Omega.{arith}
 use borrow.Author.Tests.{eq-eqb, ne-eqb, eqb-true}
@@ -13,10 +13,14 @@ use Rattle.text.specs.Decimal.{decimal, digitsIn}
 use Rattle.blocks.specs.Walk.{walkedOf}
 use Rattle.blocks.specs.Frames.{framesOf}
 use Rattle.blocks.specs.declared.Ending.{Ending}
-use Rattle.lines.specs.Lines.{refusedLine}
+use Rattle.values.specs.declared.Outcome.the-variants.{Expansion}
+use Rattle.frame.specs.Correction.{numberOfCase}
+use Rattle.frame.specs.declared.Correction.{Correction}
+use Rattle.passes.specs.declared.Hearing.{Hearing}
+use Rattle.lines.specs.Lines.{fields, letterOf, corrected, restOf, frameLine, refusedLine}
 use Rattle.lines.proofs.Lines.{place-line, size-line}
-use Rattle.listing.specs.Listing.{soundText, textBy, listingOf, room, listedOf, listingLeft, refusalOf}
-use Rattle.listing.specs.Promised.{ListingStands, FaultsListed, RefusedListingStays}
+use Rattle.listing.specs.Listing.{saidOf, soundText, textBy, listingOf, room, listedOf, listingLeft, refusalOf}
+use Rattle.listing.specs.Promised.{ListingStands, FaultsListed, LetterListed, RefusedListingStays}
 use Rattle.listing.specs.declared.Listed.the-variants.{Text, WrongLength}
 
 -- a text is answered only for a buffer that has room for it, and its length is the listing's
@@ -59,6 +63,32 @@ faults-listed s p size = (
       ∙ sym (append-assoc (ascii "refused 11 at ") (decimal p) (ascii " " ++ (decimal size ++ ascii "\n")))
       ∙ sym (append-assoc front (ascii " ") (decimal size ++ ascii "\n"))
       ∙ sym (append-assoc (front ++ ascii " ") (decimal size) (ascii "\n")),
+)
+
+-- a number, a correction and its letter, one space apart
+spaced : (n : ℕ) (c : Correction)
+    → decimal n ++ corrected c ≡ decimal n ++ ascii " " ++ decimal (numberOfCase c) ++ ascii " " ++ letterOf c
+unfolding corrected fields
+spaced n c =
+    let d = decimal n in
+    let m = ascii " " ++ decimal (numberOfCase c) in
+    let f = fields (numberOfCase c ∷ []) in
+    sym (append-assoc d (f ++ ascii " ") (letterOf c))
+    ∙ ap (λ (t : List ℕ). t ++ letterOf c)
+    (sym (append-assoc d f (ascii " "))
+    ∙ ap (λ (t : List ℕ). t ++ ascii " ")
+    (ap (λ (t : List ℕ). d ++ t) (append-nil m) ∙ sym (append-assoc d (ascii " ") (decimal (numberOfCase c)))))
+
+-- with 6 the rest is the refusal
+six-listed : (n : ℕ) (h : Hearing) → h .values .outcome ≡ Expansion → restOf (saidOf n h) ≡ ascii " refused 6"
+unfolding restOf decimal digitsIn
+six-listed n h e = rw e
+
+pub letter-listed : LetterListed
+unfolding LetterListed frameLine
+letter-listed n h = (
+  ap (λ (t : List ℕ). t ++ restOf (saidOf n h) ++ ascii "\n") (spaced n (h .reading .correction)),
+  six-listed n h,
 )
 
 -- a buffer of any other length is refused, and stays

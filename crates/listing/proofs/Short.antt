@@ -7,7 +7,10 @@ use native.Mathlib.Omega.{arith}
 use lib.Dec.{eqb}
 use lib.ListN.{length, getD, take, length-append}
 use Rattle.laws.proofs.Chosen.{chosen}
+use Rattle.frame.specs.Correction.{numberOfCase}
 use Rattle.frame.specs.Answers.{readingOf}
+use Rattle.frame.specs.declared.Correction.{Correction}
+use Rattle.frame.specs.declared.Correction.the-variants.{Clean, Parity, Data}
 use Rattle.frame.proofs.Readings.{reading-range, reading-sync}
 use Rattle.values.specs.Values.{freshState, valuesOf}
 use Rattle.values.specs.Outcome as values
@@ -36,8 +39,8 @@ use Rattle.passes.proofs.Passes.{frames-most}
 use Rattle.text.specs.Ascii.{ascii}
 use Rattle.text.specs.Decimal.{decimal}
 use Rattle.text.proofs.Decimal.{decimal-most}
-use Rattle.lines.specs.Lines.{pairLine, headLine, fields, restOf, frameLine, lastLine, numbersShown, refusalLine}
-use Rattle.lines.specs.Lines.{refusedLine}
+use Rattle.lines.specs.Lines.{pairLine, headLine, fields, letterOf, corrected, restOf, frameLine, lastLine}
+use Rattle.lines.specs.Lines.{numbersShown, refusalLine, refusedLine}
 use Rattle.listing.specs.Listing.{saidOf, headOf, frameOf, lastOf, linesTo, bodyOf, soundText, textBy}
 use Rattle.listing.specs.Listing.{listingOf, room}
 use Rattle.listing.specs.Promised.{ListingFits}
@@ -130,6 +133,21 @@ outcome-small (Outcome.TooLarge f) = omega arith
 outcome-small Outcome.Expansion = omega arith
 outcome-small Outcome.Nothing = omega arith
 
+-- a letter is one byte
+letter-one : (c : Correction) → length (letterOf c) ≡ 1
+letter-one Clean = refl
+letter-one (Parity n) = refl
+letter-one (Data f i) = refl
+
+-- a correction takes at most a space and two digits, and a space and its letter
+corrected-short : (c : Correction) → numberOfCase c < 16 → length (corrected c) ≤ 5
+unfolding corrected
+corrected-short c h =
+    let b = field-short (numberOfCase c) 2 [] (omega arith) (omega arith) in
+    let z = fields-none in
+    let l = letter-one c in
+    simp length-append (omega arith)
+
 module _ (before : State) (f : List ℕ) where
   -- a delay takes at most a space and four digits
   delay-short : (k : ℕ) → k < 4 → (ns : List ℕ)
@@ -169,8 +187,7 @@ module _ (before : State) (f : List ℕ) where
   unfolding frameLine hearingOf
   line-short n h =
       let a : length (decimal n) ≤ 4 = decimal-most n 4 (omega arith) h in
-      let b = field-short (readingOf f .number) 2 [] (omega arith) (let s = reading-range f .numbered in omega arith) in
-      let c = fields-none in
+      let b = corrected-short (readingOf f .correction) (reading-range f .numbered) in
       let l = rest-short n in
       simp length-append (omega arith)
 

@@ -11,7 +11,6 @@ use Rattle.blocks.specs.Frames.{framesOf}
 use Rattle.blocks.specs.declared.Walk.{Walk}
 use Rattle.blocks.specs.declared.Ending.{Ending}
 use Rattle.blocks.specs.declared.Ending.the-variants.{Sound, Refused}
-use Rattle.frame.specs.Answers.{correctionNumber}
 use Rattle.values.specs.Outcome as values
 use Rattle.passes.specs.Counted.{countsOf}
 use Rattle.passes.specs.Pass.{frameHeard}
@@ -28,7 +27,7 @@ abbrev pub saidOf : ℕ → Hearing → Said
 saidOf n h =
     record {
       number = n;
-      correction = correctionNumber (h .reading);
+      correction = h .reading .correction;
       refusal = values.refusalOf (h .values .outcome);
       mark = h .reading .mark;
       sy = h .reading .indices .sy;

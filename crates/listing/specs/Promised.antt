@@ -9,7 +9,11 @@ use Rattle.text.specs.Decimal.{decimal}
 use Rattle.blocks.specs.Walk.{walkedOf}
 use Rattle.blocks.specs.declared.Cause.the-variants.{HeaderCut, PastEnd, WrongSize}
 use Rattle.blocks.specs.declared.Ending.the-variants.{Refused}
-use Rattle.listing.specs.Listing.{room, listingOf, listedOf, listingLeft, refusalOf}
+use Rattle.frame.specs.Answers.{correctionNumber}
+use Rattle.values.specs.declared.Outcome.the-variants.{Expansion}
+use Rattle.passes.specs.declared.Hearing.{Hearing}
+use Rattle.lines.specs.Lines.{letterOf, restOf}
+use Rattle.listing.specs.Listing.{saidOf, frameOf, room, listingOf, listedOf, listingLeft, refusalOf}
 use Rattle.listing.specs.declared.Listed.the-variants.{Text}
 
 -- the listing of any bytes fits the buffer, whole
@@ -30,6 +34,16 @@ FaultsListed =
     × (walkedOf s .ending ≡ Refused (PastEnd p) → listingOf s ≡ ascii "refused 10 at " ++ decimal p ++ ascii "\n")
     × (walkedOf s .ending ≡ Refused (WrongSize p size)
     → listingOf s ≡ ascii "refused 11 at " ++ decimal p ++ ascii " " ++ decimal size ++ ascii "\n")
+
+-- after its number the line of a frame has the correction number and the letter, and then the rest; with 6 too: "2 15 d
+-- refused 6" (document 02, K5)
+unfoldable pub LetterListed : Type 0
+LetterListed =
+    (n : ℕ) (h : Hearing)
+    → (frameOf n h
+    ≡ decimal n ++ ascii " " ++ decimal (correctionNumber (h .reading)) ++ ascii " " ++ letterOf (h .reading .correction)
+    ++ restOf (saidOf n h) ++ ascii "\n")
+    × (h .values .outcome ≡ Expansion → restOf (saidOf n h) ≡ ascii " refused 6")
 
 -- a buffer of any other length is refused (1) and stays as it was
 unfoldable pub RefusedListingStays : Type 0

@@ -65,13 +65,15 @@ fn said(n: u32, hearing: Hearing) -> Said
     let values = hearing.values;
     let outcome = values.outcome;
     let refusal = outcome.refusal_number();
+    let reading = hearing.reading;
+    let correction = reading.correction;
     let delays = values.delays;
     Said {
         number: n,
-        correction: hearing.reading.correction_number(),
+        correction,
         refusal,
-        mark: hearing.reading.mark,
-        sy: hearing.reading.indices.sy,
+        mark: reading.mark,
+        sy: reading.indices.sy,
         first: delays[0],
         second: delays[1],
         third: delays[2],

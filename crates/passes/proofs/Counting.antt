@@ -9,22 +9,18 @@ use borrow.Author.Tests.{eq-eqb, ne-eqb}
 use lib.Dec.{eqb}
 use Rattle.laws.proofs.Total.{total-more, total-most}
 use Rattle.laws.specs.Total.{total}
-use Rattle.frame.specs.Answers.{readingOf, correctionNumber}
+use Rattle.frame.specs.Answers.{readingOf}
+use Rattle.frame.specs.declared.Correction.{Correction}
+use Rattle.frame.specs.declared.Correction.the-variants.{Clean, Parity, Data}
 use Rattle.values.specs.declared.LastSy.the-variants.{Was}
 use Rattle.values.specs.declared.State.{State}
 use Rattle.passes.specs.Counted.{repairOf, repairBy, breaksAt, breakOf, countingOf, counting, frameAt}
 use Rattle.passes.specs.Counted.{lastBefore, breakAt, countsTo}
 use Rattle.passes.specs.declared.Counts.{Counts}
 
--- the returns of `steps::repair_by`: 0 where the number is 0, or else 1
-module _ (number : ℕ) where
-  -- number 0 is no repair
-  pub repair-none : number ≡ 0 → 0 ≡ repairOf number
-  repair-none z = rw (eq-eqb number 0 z)
-
-  -- any other is one
-  pub repair-one : (number ≡ 0 → ⊥) → 1 ≡ repairOf number
-  repair-one z = rw (ne-eqb number 0 z)
+-- the returns of `steps::repair_by`: the correction is one of its cases
+pub repair-told : (c : Correction) {d : Correction} → c ≡ d → repairOf d ≡ repairOf c
+repair-told c e = ap repairOf (sym e)
 
 -- the returns of `steps::break_by`: 1 where SY is the one at which there is a break, or else 0
 module _ (sy at : ℕ) where
@@ -36,23 +32,24 @@ module _ (sy at : ℕ) where
   pub break-none : (sy ≡ at → ⊥) → 0 ≡ breakOf sy at
   break-none w = rw (ne-eqb sy at w)
 
--- a frame counts at most once as repaired and at most once as a break
-one-at-most : (x y : ℕ) (b : Bool) → x ≤ 1 → y ≤ 1 → cond b x y ≤ 1
-one-at-most x y true p q = p
-one-at-most x y false p q = q
-
 -- a frame counts at most one repair
-pub repair-small : (number : ℕ) → repairOf number ≤ 1
-repair-small number = one-at-most 0 1 (eqb number 0) (omega arith) (omega arith)
+pub repair-small : (c : Correction) → repairOf c ≤ 1
+repair-small Clean = omega arith
+repair-small (Parity n) = omega arith
+repair-small (Data f i) = omega arith
 
 -- and at most one break
 pub break-small : (sy at : ℕ) → breakOf sy at ≤ 1
-break-small sy at = one-at-most 1 0 (eqb sy at) (omega arith) (omega arith)
+break-small sy at = go (eqb sy at)
+  where
+    go : (b : Bool) → cond b 1 0 ≤ 1
+    go true = omega arith
+    go false = omega arith
 
 -- the return of `steps::counted`
-pub counted : (c : Counts) (number sy at : ℕ) {more broken : ℕ} → more ≡ repairOf number → broken ≡ breakOf sy at
-    → record { repaired = c .repaired + more; breaks = c .breaks + broken } ≡ countingOf c number sy at
-counted c number sy at p q = λ i. record { repaired = c .repaired + p i; breaks = c .breaks + q i }
+pub counted : (c : Counts) (x : Correction) (sy at : ℕ) {more broken : ℕ} → more ≡ repairOf x → broken ≡ breakOf sy at
+    → record { repaired = c .repaired + more; breaks = c .breaks + broken } ≡ countingOf c x sy at
+counted c x sy at p q = λ i. record { repaired = c .repaired + p i; breaks = c .breaks + q i }
 
 module _ (before : State) (frames : List (List ℕ)) where
   -- no frame counts nothing
@@ -85,7 +82,7 @@ module _ (before : State) (frames : List (List ℕ)) where
       omega (
         arith,
         total-most (λ n. repairBy (readingOf (frameAt frames n))) 1 k
-            (λ n a b. repair-small (correctionNumber (readingOf (frameAt frames n)))),
+            (λ n a b. repair-small (readingOf (frameAt frames n) .correction)),
       )
 
   -- no more breaks than frames are counted

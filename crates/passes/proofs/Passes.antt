@@ -12,7 +12,8 @@ use lib.Dec.{leb}
 use lib.ListN.{length, getD, take, drop, drop-of-length-le}
 use lib.Seq.{drop-cons, take-all}
 use Rattle.laws.specs.Table.{both}
-use Rattle.frame.specs.Answers.{readingOf, correctionNumber}
+use Rattle.frame.specs.Answers.{readingOf}
+use Rattle.frame.specs.declared.Correction.{Correction}
 use Rattle.frame.specs.declared.Reading.{Reading}
 use Rattle.values.specs.Values.{nothingHeard}
 use Rattle.values.specs.declared.LastSy.{LastSy}
@@ -140,13 +141,13 @@ module _ (s : List ℕ) (p : Pass) where
           }
 
 -- of `steps::past`
-pub past-frame : (p : Pass) (h : Hearing) (end left : ℕ) {number at : ℕ} {c : Counts}
-    → number ≡ correctionNumber (h .reading) → at ≡ breaksAt (p .state .last)
-    → c ≡ countingOf (p .counts) number (h .reading .indices .sy) at
+pub past-frame : (p : Pass) (h : Hearing) (end left : ℕ) {x : Correction} {at : ℕ} {c : Counts}
+    → x ≡ h .reading .correction → at ≡ breaksAt (p .state .last)
+    → c ≡ countingOf (p .counts) x (h .reading .indices .sy) at
     → record { at = end; left = left; frames = p .frames + 1; counts = c; state = h .values .state }
     ≡ pastFrame p h end left
 past-frame p h end left is then e =
-    let f = ap₂ (λ (n at : ℕ). countingOf (p .counts) n (h .reading .indices .sy) at) is then in
+    let f = ap₂ (λ (y : Correction) (at : ℕ). countingOf (p .counts) y (h .reading .indices .sy) at) is then in
     λ i. record { at = end; left = left; frames = p .frames + 1; counts = (e ∙ f) i; state = h .values .state }
 
 -- of `steps::stay`

@@ -1,24 +1,29 @@
--- What is counted of the frames of a recording (document 01, "Recordings"; document 02, K4). Both counts include frames
--- refused with 6.
+-- What is counted of the frames of a recording (document 01, "Recordings"; document 02, K4 and K5). Both counts include
+-- frames refused with 6.
 use mathlib.Core.Bool.{cond}
 use mathlib.Core.List.{List, []}
 use Prim.Native.Nat.{ℕ, _+_, _-_}
 use lib.Dec.{eqb}
 use lib.ListN.{length, getD}
 use Rattle.laws.specs.Total.{total}
-use Rattle.frame.specs.Answers.{readingOf, correctionNumber}
+use Rattle.frame.specs.Answers.{readingOf}
+use Rattle.frame.specs.declared.Correction.{Correction}
+use Rattle.frame.specs.declared.Correction.the-variants.{Clean, Parity, Data}
 use Rattle.frame.specs.declared.Reading.{Reading}
 use Rattle.values.specs.declared.LastSy.{LastSy}
 use Rattle.values.specs.declared.LastSy.the-variants.{Never, Was}
 use Rattle.values.specs.declared.State.{State}
 use Rattle.passes.specs.declared.Counts.{Counts}
 
--- a repaired frame is one whose correction number isn't 0
-abbrev pub repairOf : ℕ → ℕ
-repairOf number = cond (eqb number 0) 0 1
+-- a repaired frame is one in which a data bit was inverted: "'Repaired' counts only `d` from now on" (document 02, K5, in
+-- place of 01's correction number that isn't 0)
+abbrev pub repairOf : Correction → ℕ
+repairOf Clean = 0
+repairOf (Parity n) = 0
+repairOf (Data f i) = 1
 
 abbrev pub repairBy : Reading → ℕ
-repairBy r = repairOf (correctionNumber r)
+repairBy r = repairOf (r .correction)
 
 -- "A break is [..] a frame whose SY equals that of the frame before it, or a first frame whose SY is 1" (document 02,
 -- K4, in place of 01's rule by the frame's number): the SY at which the next frame is one
@@ -34,11 +39,12 @@ abbrev pub breakBy : LastSy → Reading → ℕ
 breakBy last r = breakOf (r .indices .sy) (breaksAt last)
 
 -- counts with a frame counted too
-abbrev pub countingOf : Counts → ℕ → ℕ → ℕ → Counts
-countingOf c number sy at = record { repaired = c .repaired + repairOf number; breaks = c .breaks + breakOf sy at }
+abbrev pub countingOf : Counts → Correction → ℕ → ℕ → Counts
+countingOf c correction sy at =
+    record { repaired = c .repaired + repairOf correction; breaks = c .breaks + breakOf sy at }
 
 abbrev pub counting : Counts → LastSy → Reading → Counts
-counting c last r = countingOf c (correctionNumber r) (r .indices .sy) (breaksAt last)
+counting c last r = countingOf c (r .correction) (r .indices .sy) (breaksAt last)
 
 -- frame n of a list of frames
 abbrev pub frameAt : List (List ℕ) → ℕ → List ℕ

@@ -2,23 +2,24 @@
 -- Assumes nothing.
 use mathlib.Core.Path.{_≡_, _∙_, sym, refl, ap}
 use mathlib.Core.List.{List}
-use Prim.Native.Nat.{ℕ, _+_, _*_}
+use Prim.Native.Nat.{ℕ, _+_}
 use native.Mathlib.Omega.{arith}
 use borrow.Author.Tests.{eq-eqb}
 use lib.IntN.{pos, natAbs}
 use lib.ListN.{length}
 use Rattle.laws.proofs.Tabulate.{length-tabulate}
 use Rattle.frame.specs.Frame.{frameOf}
-use Rattle.frame.specs.Answers.{readingOf, correctionNumber, writtenOf, frameLeft, leftBy, refusalOf}
+use Rattle.frame.specs.Answers.{readingOf, writtenOf, frameLeft, leftBy, refusalOf}
+use Rattle.frame.specs.declared.Correction.the-variants as Correction
 use Rattle.frame.specs.declared.Reading.{Reading}
 use Rattle.frame.specs.declared.Verdict.the-variants as Verdict
 use Rattle.frame.specs.declared.Written.{Written}
 use Rattle.frame.specs.declared.Written.the-variants as Written
 use Rattle.frame.proofs.Answered.{read-eighteen}
 use Rattle.pairs.specs.Pairs.{bytesOf, pairIn, recordIn}
-use Rattle.gateway.specs.Results.{refused, readResult, recordLeft, writeResult, frameLeftBy}
+use Rattle.gateway.specs.Results.{refused, resultOf, readResult, recordLeft, writeResult, frameLeftBy}
 use Rattle.pairs.proofs.Laws.{record-of-bytes, bytes-of-record}
-use Rattle.gateway.proofs.Ranges.{reading-apart}
+use Rattle.gateway.proofs.Ranges.{reading-kind, reading-mark, reading-number, reading-rest}
 use Rattle.promises.specs.Frames.{Shaped, ReadsBack}
 use Rattle.promises.specs.Boundary.{PairsHoldRecord, ReadTells, WriteTells, BoundaryReadsBack}
 use Rattle.promises.proofs.Frames.{reads-back}
@@ -32,8 +33,8 @@ pairs-hold-record = (
 
 -- where both buffers have their lengths, a reading is told and put
 module _ (s o : List ℕ) (read : readingOf s .verdict ≡ Verdict.Read) (long : length o ≡ 56) where
-  -- the result has the mark and the number
-  pub read-result-is : readResult s (length o) ≡ pos (16 * readingOf s .mark + correctionNumber (readingOf s))
+  -- the result has the mark, the number and what the kind adds
+  pub read-result-is : readResult s (length o) ≡ pos (resultOf (readingOf s))
   unfolding readResult
   read-result-is = rw (eq-eqb (length o) 56 long, read)
 
@@ -45,10 +46,12 @@ module _ (s o : List ℕ) (read : readingOf s .verdict ≡ Verdict.Read) (long :
 pub read-tells : ReadTells
 unfolding ReadTells
 read-tells s o eighteen long = record {
-  told = 16 * readingOf s .mark + correctionNumber (readingOf s);
+  told = resultOf (readingOf s);
   result = read-result-is s o read long;
-  mark = reading-apart s .0;
-  number = reading-apart s .1;
+  kind = reading-kind s;
+  mark = reading-mark s;
+  number = reading-number s;
+  as-before = reading-rest s;
   left = record-left-is s o read long;
 }
   where
@@ -90,7 +93,7 @@ pub boundary-reads-back : BoundaryReadsBack
 unfolding BoundaryReadsBack ReadsBack recordIn
 boundary-reads-back s o p full room e = (
   read-result-is (frameLeftBy s o) p (ap (λ (x : Reading). x .verdict) back) room
-      ∙ ap (λ (x : Reading). pos (16 * x .mark + correctionNumber x)) back,
+      ∙ ap (λ (x : Reading). pos (resultOf x)) back,
   record-left-is (frameLeftBy s o) p (ap (λ (x : Reading). x .verdict) back) room
       ∙ ap (λ (x : Reading). bytesOf (x .indices)) back ∙ bytes-of-record s (full .long) (full .bytes),
 )
@@ -102,5 +105,6 @@ boundary-reads-back s o p full room e = (
           indices = length-tabulate (λ k. pairIn s (k + 11)) 16;
         }
 
-    back : readingOf (frameLeftBy s o) ≡ record { verdict = Verdict.Read; indices = recordIn s; number = 0; mark = 0 }
+    back : readingOf (frameLeftBy s o)
+        ≡ record { verdict = Verdict.Read; indices = recordIn s; correction = Correction.Clean; mark = 0 }
     back = ap readingOf (left-is s o (full .long)) ∙ reads-back (recordIn s) o shaped (zero-is-frame s o (full .long) e)

@@ -115,12 +115,14 @@ demand-two =
       repairs-counted = parts.repairs-counted;
       breaks-counted = parts.breaks-counted;
       state-runs-on = running.state-runs-on;
+      correction-passed-on = running.correction-passed-on;
       nothing-beyond = running.nothing-beyond;
       pass-hears = running.pass-hears;
       pass-counts = running.pass-counts;
       so-far-alone = running.so-far-alone;
       listing-fits = short.listing-fits;
       listing-stands = listing.listing-stands;
+      letter-listed = listing.letter-listed;
     }
 
 pub demand-three : DemandThree
@@ -132,6 +134,8 @@ demand-three =
       one-flip = functions.one-flip;
       two-reported = frames.two-reported;
       two-flips = functions.two-flips;
+      case-of-each = repairs.case-of-each;
+      one-number-each = repairs.one-number-each;
       clean-changes-nothing = repairs.clean-changes-nothing;
       parity-hit-changes-nothing = repairs.parity-hit-changes-nothing;
       data-hit-inverts-one = repairs.data-hit-inverts-one;

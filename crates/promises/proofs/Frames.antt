@@ -20,6 +20,7 @@ use Rattle.record.specs.declared.Record.{Record}
 use Rattle.record.proofs.Laws.{none-too-large, all-fit-none-too-large, record-is}
 use Rattle.frame.specs.Places.{fieldAt, bitIn, bitsIn, placeOf, fieldOf, bitOf}
 use Rattle.frame.specs.Parity.{guardedName, guardedPlace, number, mended, inverted}
+use Rattle.frame.specs.Correction.{correctionOf}
 use Rattle.frame.specs.Frame.{byteOf, shiftOf, bitAt, packed, indexIn, recordOf, sent, withParity, parityOf, frameOf}
 use Rattle.frame.specs.Answers.{recordMark, readingOf, correctionNumber, writtenOf}
 use Rattle.frame.specs.declared.Reading.{Reading}
@@ -33,11 +34,12 @@ use Rattle.frame.proofs.Packed.{sent-small}
 use Rattle.frame.proofs.Mended.{guarded-field-small, guarded-bit-small, guarded-place, guarded-first, guarded-apart}
 use Rattle.frame.proofs.Mended.{mended-bits, mended-same, mended-there}
 use Rattle.frame.proofs.Answered.{accepted, Accepted, accepted-only, left, read-eighteen}
-use Rattle.frame.proofs.Readings.{record-fits, reading-range}
+use Rattle.frame.proofs.Corrections.{number-of-correction, clean-at-zero}
+use Rattle.frame.proofs.Readings.{record-fits, reading-range, reading-case}
 use Rattle.frame.proofs.Laws.{bit-packed, packed-byte, length-packed, packed-bits, packed-cong-bits, number-cong}
 use Rattle.frame.proofs.Laws.{record-cong, index-sent, clean-same, bit-number, clean-check, number-over, mended-over}
 use Rattle.frame.proofs.Laws.{parity-below, written-clean, index-of-record, bits-width, as-sent, parity-told}
-use Rattle.frame.proofs.Laws.{number-one, number-none, mended-one, number-two, number-third, nowhere}
+use Rattle.frame.proofs.Laws.{number-below, number-one, number-none, mended-one, number-two, number-third, nowhere}
 use Rattle.promises.specs.Frames.{Shaped, Eighteen, ReadsBack, WritesBack, Clean, SameBits, Made, flipped}
 use Rattle.promises.specs.Frames.{DamageAlone, Guarded, Flipped, Unflipped, AtMostOne, ExactlyTwo, OneMended}
 use Rattle.promises.specs.Frames.{TwoReported, EveryFrameRead, OneFrame, Comes, SixteenFrames}
@@ -90,7 +92,7 @@ reads-back r s shaped e =
     ∙ (λ i. record {
       verdict = Verdict.Read;
       indices = record-read r shaped (a .fits) i;
-      number = frame-clean r i;
+      correction = (ap correctionOf (frame-clean r) ∙ sym (clean-at-zero 0 refl)) i;
       mark = (ap recordMark (record-read r shaped (a .fits)) ∙ a .order) i;
     })
   where
@@ -105,7 +107,8 @@ module _ (s : List ℕ) (long : length s ≡ 18) where
 
   -- the number is that of the bits as they came
   pub read-number : correctionNumber (readingOf s) ≡ number (bitAt s)
-  read-number = ap correctionNumber (read-eighteen s long)
+  read-number =
+      ap correctionNumber (read-eighteen s long) ∙ number-of-correction (number (bitAt s)) (number-below (bitAt s))
 
   -- the mark is that of the record
   read-mark : readingOf s .mark ≡ recordMark (recordOf (mended (bitAt s)))
@@ -238,6 +241,10 @@ module _ (r : Record) (w : List ℕ) (made : Made r w) where
         ∙ number-over (bitAt w) (bitAt e) (bitAt (flipped w e)) (flipped-bit w e) made-clean
         ∙ sym (read-number e (full .long))
 
+    -- and so the correction
+    pub flips-correction : readingOf (flipped w e) .correction ≡ readingOf e .correction
+    flips-correction = reading-case (flipped w e) ∙ ap correctionOf flips-number ∙ sym (reading-case e)
+
     -- each bit read is the written one, reversed where the flips alone give 1
     pub flips-bit : (f i : ℕ) → 1 ≤ f → f ≤ 28 → i < widthOf f
         → readBit (flipped w e) f i ≡ (bit (indexOf r f) i + readBit e f i) % 2
@@ -271,7 +278,11 @@ module _ (r : Record) (w : List ℕ) (made : Made r w) where
 
 pub damage-alone : DamageAlone
 unfolding DamageAlone
-damage-alone r w e made full = record { indices = flips-index r w made e full; number = flips-number r w made e full }
+damage-alone r w e made full = record {
+  indices = flips-index r w made e full;
+  correction = flips-correction r w made e full;
+  number = flips-number r w made e full;
+}
 
 -- of flips with no more than one guarded place among them: all but one are unflipped
 module _ (e : List ℕ) where

@@ -25,7 +25,7 @@ use Rattle.lsp.specs.declared.Verdict.the-variants as Lsp
 use Rattle.codebook.specs.Code as code
 use Rattle.codebook.specs.declared.Written as code-written
 use Rattle.codebook.specs.declared.Written.the-variants as Code
-use Rattle.frame.specs.Answers.{readingOf, correctionNumber, writtenOf}
+use Rattle.frame.specs.Answers.{readingOf, writtenOf}
 use Rattle.frame.specs.Answers as frame
 use Rattle.frame.specs.declared.Reading.{Reading}
 use Rattle.frame.specs.declared.Verdict.the-variants as Verdict
@@ -48,7 +48,7 @@ use Rattle.recording.specs.Judged.{judgedOf, judgedRefusal, judgedTells}
 use Rattle.recording.specs.declared.Judged.{Judged}
 use Rattle.recording.specs.declared.Judged.the-variants as Judged
 use Rattle.pairs.specs.Pairs.{recordIn}
-use Rattle.gateway.specs.Results.{refused, readResult, writeResult}
+use Rattle.gateway.specs.Results.{refused, resultOf, readResult, writeResult}
 use Rattle.promises.specs.Refused.{WriterGives, WriterRefuses, HearingGives, HearingRefuses, HertzGives}
 use Rattle.promises.specs.Refused.{HertzRefuses, MeaningGives, MeaningRefuses, CodingGives, DelaysRefuse}
 use Rattle.promises.specs.Refused.{CodeGives, CodeRefuses}
@@ -343,9 +343,9 @@ recording-numbers s k t = (
 
 -- the reader at the C boundary, by the two lengths
 module _ (s o : List ℕ) where
-  -- both right: the mark and the number
+  -- both right: the mark, the number and what the kind adds
   c-read-is : length s ≡ 18 → length o ≡ 56
-      → readResult s (length o) ≡ pos (16 * readingOf s .mark + correctionNumber (readingOf s))
+      → readResult s (length o) ≡ pos (resultOf (readingOf s))
   c-read-is e l = read-result-is s o (verdict-is s e) l
 
   -- one wrong: -1

@@ -35,7 +35,7 @@ use Rattle.codebook.specs.Code as code
 use Rattle.codebook.specs.declared.Written as code-written
 use Rattle.codebook.specs.declared.Written.the-variants as Code
 use Rattle.frame.specs.Frame.{frameOf}
-use Rattle.frame.specs.Answers.{recordMark, readingOf, correctionNumber, readRefusal, writtenOf, leftBy, frameLeft}
+use Rattle.frame.specs.Answers.{recordMark, readingOf, readRefusal, writtenOf, leftBy, frameLeft}
 use Rattle.frame.specs.Answers.{refusalOf}
 use Rattle.frame.specs.declared.Reading.{Reading}
 use Rattle.frame.specs.declared.Verdict.{Verdict}
@@ -53,7 +53,8 @@ use Rattle.values.proofs.Laws.{by-outcome, outcome-too-large, outcome-expansion
 use Rattle.values.proofs.Laws.{state-by}
 use Rattle.values.proofs.Laws.{nothing-outcome, nothing-state, bits-are-widths}
 use Rattle.pairs.specs.Pairs.{recordIn}
-use Rattle.gateway.specs.Results.{refused, readAnswer, readResult, readInto, recordLeft, writeResult, frameLeftBy}
+use Rattle.gateway.specs.Results.{refused, resultOf, readAnswer, readResult, readInto, recordLeft}
+use Rattle.gateway.specs.Results.{writeResult, frameLeftBy}
 use Rattle.promises.specs.Refused.{ReaderRefuses, LowestTooLarge, Ordered, LowestFall, WriterGives, WriterRefuses}
 use Rattle.promises.specs.Refused.{RefusedFrameStays, RefusedReadStays, RefusedWriteStays}
 use Rattle.promises.specs.Refused.{HearingGives, HearingRefuses, RefusedStateStays, SyncAlone}
@@ -555,7 +556,7 @@ unfolding RefusedReadStays readResult recordLeft
 refused-read-stays s o = sized (eqb (length o) 56)
   where
     told : (a : Reading) (v : Verdict) → a .verdict ≡ v → ((n : ℕ) → readAnswer a ≡ pos n → ⊥) → readInto a o ≡ o
-    told a Verdict.Read e w = absurd (w (16 * a .mark + correctionNumber a) (rw e))
+    told a Verdict.Read e w = absurd (w (resultOf a) (rw e))
     told a Verdict.WrongLength e w = rw e
 
     sized : (t : Bool) → ((n : ℕ) → unless t (refused 1) (readAnswer (readingOf s)) ≡ pos n → ⊥)

@@ -1,35 +1,38 @@
--- What a correction number does, shown: the reading is the mended bits, place by place.
+-- What a correction does, shown: the reading is the mended bits, place by place.
 -- Assumes nothing.
-use mathlib.Core.Path.{_≡_, _∙_, sym, refl, ap, subst}
+use mathlib.Core.Path.{_≡_, _∙_, sym, refl, ap, ap₂, subst}
 use mathlib.Core.Bool.{Bool, true, false, cond}
 use mathlib.Core.List.{List, [], _∷_}
-use Prim.Native.Nat.{ℕ, _+_, _%_, _<_, _≤_}
+use Prim.Native.Nat.{ℕ, zero, suc, _+_, _%_, _<_, _≤_}
 use native.Mathlib.Omega.{arith}
 use native.Mathlib.Decide.{ℕ-discrete}
-use borrow.Author.Tests.{eq-eqb, ne-eqb}
-use lib.Dec.{T, eqb}
-use Rattle.laws.specs.Table.{allBelow}
-use Rattle.laws.proofs.Table.{below}
+use lib.Dec.{eqb}
 use Rattle.lsp.specs.Table.{hzTable, hertzOf}
 use Rattle.lsp.specs.Order.{markOf}
 use Rattle.laws.specs.Lowest.{lowestFrom}
 use Rattle.laws.specs.Tabulate.{tabulateFrom}
 use Rattle.laws.specs.Total.{total, bit, fromBits}
 use Rattle.record.specs.Fields.{indexOf, widthOf}
-use Rattle.frame.specs.Places.{places, seek, fieldAt, bitIn, bitsIn, placeOf, fieldOf, bitOf}
+use Rattle.frame.specs.Places.{places, seek, fieldAt, bitIn, bitsIn, placeOf, fieldOf}
 use Rattle.frame.specs.Parity.{guardedName, guardedPlace, number, mended}
+use Rattle.frame.specs.Correction.{correctionOf, dataNumber, numberOfCase}
 use Rattle.frame.specs.Frame.{placeAt, bitAt, packed, indexIn}
 use Rattle.frame.specs.Answers.{readingOf, correctionNumber, recordMark}
+use Rattle.frame.specs.declared.Correction.{Correction}
 use Rattle.frame.proofs.Fields.{place-first, field-of-place, bit-of-place}
 use Rattle.frame.proofs.Gathered.{bitAt-small}
 use Rattle.frame.proofs.Mended.{guarded-field-small, guarded-bit-small, guarded-place, field-of-guarded, mended-same}
 use Rattle.frame.proofs.Mended.{mended-there}
-use Rattle.frame.proofs.Laws.{bits-width, packed-byte, length-packed, number-none, number-below, nowhere}
+use Rattle.frame.proofs.Corrections.{OfData, of-data, of-parity, clean-at-zero}
+use Rattle.frame.proofs.Readings.{reading-range, reading-case}
+use Rattle.frame.proofs.Laws.{bits-width, packed-byte, length-packed, number-none, nowhere}
 use Rattle.promises.specs.Frames.{Eighteen, flipped, NoneGuarded}
 use Rattle.promises.specs.Worked.{only, isIn}
-use Rattle.promises.specs.Repairs.{FifteenPlaces, readBit, AsItCame, CleanChangesNothing, ParityNumber, one, two}
-use Rattle.promises.specs.Repairs.{four, eight, ParityHitChangesNothing, DataHitInvertsOne, TwoNeverMended}
+use Rattle.promises.specs.Repairs.{FifteenPlaces, readBit, AsItCame, CleanChangesNothing, ParityHitChangesNothing}
+use Rattle.promises.specs.Repairs.{DataHitInvertsOne, Numbered, CaseOfEach, OneNumberEach, TwoNeverMended}
 use Rattle.promises.specs.Repairs.{UnguardedUnseen, ThreeUnseen}
+use Rattle.promises.specs.Repairs.Numbered.{none, HP-0, HP-1, PD1-5, HP-2, PD1-6, PD1-7, PG1-4, HP-3, PG2-4, PD3-5}
+use Rattle.promises.specs.Repairs.Numbered.{PD3-6, PD3-7, PG3-4, PG4-4, SP-0}
 use Rattle.promises.proofs.Frames.{read-number, read-bit, flips-bit, flips-number, two-third}
 
 -- a bit at another place than the number's is read as it came
@@ -48,114 +51,155 @@ module _ (s : List ℕ) (full : Eighteen s) (f i : ℕ) (a : 1 ≤ f) (l : f ≤
   of-field : fieldAt (placeOf f i) ≡ f
   of-field = field-of-place f i (omega arith) wide
 
-  -- no field has a place of number 0, nor one of a parity bit
-  off-zero : placeOf f i ≡ guardedPlace 0 → ⊥
-  off-zero e =
-      let p = place-first f i (omega arith) wide in let z : placeOf f i ≡ 0 = e ∙ nowhere in omega (arith, p, z)
+  -- no field has a place of number 0
+  off-zero : (n : ℕ) → n ≡ 0 → placeOf f i ≡ guardedPlace n → ⊥
+  off-zero n o e =
+      let p = place-first f i (omega arith) wide in
+      let z : placeOf f i ≡ 0 = e ∙ ap guardedPlace o ∙ nowhere in
+      omega (arith, p, z)
 
-  -- nor has a field the place of a parity bit
-  off-parity : (n : ℕ) → ParityNumber n → placeOf f i ≡ guardedPlace n → ⊥
-  off-parity n p e =
-      let z : f ≡ 0 = sym of-field ∙ ap fieldAt e ∙ none n p in
+  -- nor the place of a parity bit
+  off-parity : (n : ℕ) → 1 ≤ n → n ≤ 15 → fieldOf (guardedName n) ≡ 0 → placeOf f i ≡ guardedPlace n → ⊥
+  off-parity n b c o e =
+      let z : f ≡ 0 = sym of-field ∙ ap fieldAt e ∙ field-of-guarded n b c ∙ o in
       omega (arith, z, a)
-    where
-      none : (n : ℕ) → ParityNumber n → fieldAt (guardedPlace n) ≡ 0
-      none n one = field-of-guarded 1 (omega arith) (omega arith)
-      none n two = field-of-guarded 2 (omega arith) (omega arith)
-      none n four = field-of-guarded 4 (omega arith) (omega arith)
-      none n eight = field-of-guarded 8 (omega arith) (omega arith)
+
+-- the number of a reading, and the case that it means
+module _ (s : List ℕ) where
+  abbrev told : ℕ
+  told = correctionNumber (readingOf s)
+
+  below-sixteen : told < 16
+  below-sixteen = reading-range s .numbered
+
+  means : {c : Correction} → readingOf s .correction ≡ c → correctionOf told ≡ c
+  means e = sym (reading-case s) ∙ e
 
 pub clean-changes-nothing : CleanChangesNothing
 unfolding CleanChangesNothing
-clean-changes-nothing s full z f i a l w =
-    as-it-came s full f i a l w (λ e. off-zero s full f i a l w (e ∙ ap guardedPlace z))
+clean-changes-nothing s full e f i a l w =
+    as-it-came s full f i a l w (off-zero s full f i a l w (told s) (ap numberOfCase e))
 
 pub parity-hit-changes-nothing : ParityHitChangesNothing
 unfolding ParityHitChangesNothing
-parity-hit-changes-nothing s full p f i a l w =
-    as-it-came s full f i a l w (off-parity s full f i a l w (correctionNumber (readingOf s)) p)
-
--- a number of 1 to 15 whose guarded bit is in no field is one of the four
-parity-rule : ℕ → Bool
-parity-rule n =
-    cond (eqb (fieldOf (guardedName n)) 0)
-    (cond (eqb n 0) true (cond (eqb n 1) true (cond (eqb n 2) true (cond (eqb n 4) true (eqb n 8))))) true
-
--- it passes at all sixteen
-parity-rule-holds : T (allBelow 16 parity-rule)
-unfolding parity-rule
-parity-rule-holds = tt
-
--- so any other number is that of a field's bit
-data-number : (n : ℕ) → n < 16 → (n ≡ 0 → ⊥) → (ParityNumber n → ⊥) → 1 ≤ fieldOf (guardedName n)
-unfolding parity-rule
-data-number n h z p = go (ℕ-discrete (fieldOf (guardedName n)) 0)
+parity-hit-changes-nothing s full n e f i a l w = as-it-came s full f i a l w (off (ℕ-discrete (told s) 0))
   where
-    not : (k : ℕ) → ParityNumber k → n ≡ k → ⊥
-    not k q e = p (subst ParityNumber (sym e) q)
-
-    broken : fieldOf (guardedName n) ≡ 0 → parity-rule n ≡ false
-    broken e =
-        rw (
-          eq-eqb (fieldOf (guardedName n)) 0 e,
-          ne-eqb n 0 z,
-          ne-eqb n 1 (not 1 one),
-          ne-eqb n 2 (not 2 two),
-          ne-eqb n 4 (not 4 four),
-          ne-eqb n 8 (not 8 eight),
-        )
-
-    go : Dec (fieldOf (guardedName n) ≡ 0) → 1 ≤ fieldOf (guardedName n)
-    go (yes e) = absurd (subst T (broken e) (below parity-rule 16 parity-rule-holds n h))
-    go (no w) = omega (arith, w)
+    off : Dec (told s ≡ 0) → placeOf f i ≡ guardedPlace (told s) → ⊥
+    off (yes z) = off-zero s full f i a l w (told s) z
+    off (no z) =
+        let h = below-sixteen s in
+        off-parity s full f i a l w (told s) (omega (arith, z)) (omega (arith, h)) (of-parity (told s) n h (means s e) z)
 
 pub data-hit-inverts-one : DataHitInvertsOne
 unfolding DataHitInvertsOne
-data-hit-inverts-one s full n is z p = record {
-  field-first = first;
+data-hit-inverts-one s full f i e = record {
+  field-first = hit .held;
   field-last = last;
   bit-within = within;
   there =
-      read-bit s (full .long) F K first last within
-      ∙ mended-there (bitAt s) (placeOf F K)
-      (sym (guarded-place n from upto) ∙ ap guardedPlace (sym is ∙ read-number s (full .long)));
+      read-bit s (full .long) f i (hit .held) last within
+      ∙ mended-there (bitAt s) (placeOf f i) (place ∙ ap guardedPlace (read-number s (full .long)));
   elsewhere =
-      λ g j a l w other. as-it-came s full g j a l w (λ e. other (same g j a l w (e ∙ ap guardedPlace is
-      ∙ guarded-place n from upto)));
+      λ g j a l w other. as-it-came s full g j a l w (λ o. other (same g j a l w (o ∙ sym place)));
 }
   where
-    F : ℕ
-    F = fieldOf (guardedName n)
+    hit : OfData (told s) f i
+    hit = of-data (told s) f i (below-sixteen s) (means s e)
 
-    K : ℕ
-    K = bitOf (guardedName n)
+    upto : told s ≤ 15
+    upto = let h = below-sixteen s in omega (arith, h)
 
-    small : n < 16
-    small = subst (λ (k : ℕ). k < 16) (sym (read-number s (full .long)) ∙ is) (number-below (bitAt s))
+    last : f ≤ 28
+    last = let h = guarded-field-small (told s) (hit .from) upto in let o = hit .named in omega (arith, h, o)
 
-    from : 1 ≤ n
-    from = omega (arith, z)
+    inside : i < bitsIn f
+    inside = rw (hit .named, hit .there) (guarded-bit-small (told s) (hit .from) upto)
 
-    upto : n ≤ 15
-    upto = omega (arith, small)
+    within : i < widthOf f
+    within = subst (λ (x : ℕ). i < x) (bits-width f (hit .held)) inside
 
-    first : 1 ≤ F
-    first = data-number n small z p
-
-    last : F ≤ 28
-    last = let h = guarded-field-small n from upto in omega (arith, h)
-
-    within : K < widthOf F
-    within = subst (λ (x : ℕ). K < x) (bits-width F first) (guarded-bit-small n from upto)
+    -- the bit that is named stands at the place of the number
+    place : placeOf f i ≡ guardedPlace (told s)
+    place = ap₂ placeOf (hit .named) (hit .there) ∙ sym (guarded-place (told s) (hit .from) upto)
 
     -- a place is one field's, and one bit's
-    same : (g j : ℕ) → 1 ≤ g → g ≤ 28 → j < widthOf g → placeOf g j ≡ placeOf F K → (g ≡ F) × (j ≡ K)
-    same g j a l w e =
-        let u : j < bitsIn g = wide s full g j a l w in
-        let v : K < bitsIn F = guarded-bit-small n from upto in (
-          sym (field-of-place g j (omega arith) u) ∙ ap fieldAt e ∙ field-of-place F K (omega (arith, last)) v,
-          sym (bit-of-place g j (omega arith) u) ∙ ap bitIn e ∙ bit-of-place F K (omega (arith, last)) v,
+    same : (g j : ℕ) → 1 ≤ g → g ≤ 28 → j < widthOf g → placeOf g j ≡ placeOf f i → (g ≡ f) × (j ≡ i)
+    same g j a l w o =
+        let u : j < bitsIn g = wide s full g j a l w in (
+          sym (field-of-place g j (omega arith) u) ∙ ap fieldAt o ∙ field-of-place f i (omega (arith, last)) inside,
+          sym (bit-of-place g j (omega arith) u) ∙ ap bitIn o ∙ bit-of-place f i (omega (arith, last)) inside,
         )
+
+-- each of the sixteen numbers has its case
+numbered : (n : ℕ) → n < 16 → Numbered n (correctionOf n)
+unfolding correctionOf
+numbered zero h = none
+numbered (suc zero) h = HP-0
+numbered (suc (suc zero)) h = HP-1
+numbered (suc (suc (suc zero))) h = PD1-5
+numbered (suc (suc (suc (suc zero)))) h = HP-2
+numbered (suc (suc (suc (suc (suc zero))))) h = PD1-6
+numbered (suc (suc (suc (suc (suc (suc zero)))))) h = PD1-7
+numbered (suc (suc (suc (suc (suc (suc (suc zero))))))) h = PG1-4
+numbered (suc (suc (suc (suc (suc (suc (suc (suc zero)))))))) h = HP-3
+numbered (suc (suc (suc (suc (suc (suc (suc (suc (suc zero))))))))) h = PG2-4
+numbered (suc (suc (suc (suc (suc (suc (suc (suc (suc (suc zero)))))))))) h = PD3-5
+numbered (suc (suc (suc (suc (suc (suc (suc (suc (suc (suc (suc zero))))))))))) h = PD3-6
+numbered (suc (suc (suc (suc (suc (suc (suc (suc (suc (suc (suc (suc zero)))))))))))) h = PD3-7
+numbered (suc (suc (suc (suc (suc (suc (suc (suc (suc (suc (suc (suc (suc zero))))))))))))) h = PG3-4
+numbered (suc (suc (suc (suc (suc (suc (suc (suc (suc (suc (suc (suc (suc (suc zero)))))))))))))) h = PG4-4
+numbered (suc (suc (suc (suc (suc (suc (suc (suc (suc (suc (suc (suc (suc (suc (suc zero))))))))))))))) h = SP-0
+numbered (suc (suc (suc (suc (suc (suc (suc (suc (suc (suc (suc (suc (suc (suc (suc (suc n)))))))))))))))) h = absurd (omega arith)
+
+pub case-of-each : CaseOfEach
+unfolding CaseOfEach
+case-of-each s = subst (Numbered (told s)) (sym (reading-case s)) (numbered (told s) (below-sixteen s))
+
+-- the number of a case, and the case of a number
+number-told : (n : ℕ) (c : Correction) → Numbered n c → n ≡ numberOfCase c
+unfolding dataNumber lowestFrom
+number-told n c none = refl
+number-told n c HP-0 = refl
+number-told n c HP-1 = refl
+number-told n c PD1-5 = refl
+number-told n c HP-2 = refl
+number-told n c PD1-6 = refl
+number-told n c PD1-7 = refl
+number-told n c PG1-4 = refl
+number-told n c HP-3 = refl
+number-told n c PG2-4 = refl
+number-told n c PD3-5 = refl
+number-told n c PD3-6 = refl
+number-told n c PD3-7 = refl
+number-told n c PG3-4 = refl
+number-told n c PG4-4 = refl
+number-told n c SP-0 = refl
+
+case-told : (n : ℕ) (c : Correction) → Numbered n c → c ≡ correctionOf n
+unfolding correctionOf
+case-told n c none = refl
+case-told n c HP-0 = refl
+case-told n c HP-1 = refl
+case-told n c PD1-5 = refl
+case-told n c HP-2 = refl
+case-told n c PD1-6 = refl
+case-told n c PD1-7 = refl
+case-told n c PG1-4 = refl
+case-told n c HP-3 = refl
+case-told n c PG2-4 = refl
+case-told n c PD3-5 = refl
+case-told n c PD3-6 = refl
+case-told n c PD3-7 = refl
+case-told n c PG3-4 = refl
+case-told n c PG4-4 = refl
+case-told n c SP-0 = refl
+
+pub one-number-each : OneNumberEach
+unfolding OneNumberEach
+one-number-each = (
+  λ m n c p q. number-told m c p ∙ sym (number-told n c q),
+  λ n c d p q. case-told n c p ∙ sym (case-told n d q),
+)
 
 pub two-never-mended : TwoNeverMended
 unfolding TwoNeverMended
@@ -180,7 +224,8 @@ unguarded-unseen r w e made full spared = (
   flips-number r w made e full ∙ none-flipped e full spared,
   λ f i a l h. flips-bit r w made e full f i a l h
       ∙ ap (λ (x : ℕ). (bit (indexOf r f) i + x) % 2)
-      (clean-changes-nothing e full (none-flipped e full spared) f i a l h),
+      (clean-changes-nothing e full (reading-case e ∙ ap correctionOf (none-flipped e full spared)
+      ∙ sym (clean-at-zero 0 refl)) f i a l h),
 )
 
 -- three flips whose numbers cancel
@@ -190,7 +235,7 @@ three = only (21 ∷ 51 ∷ 11 ∷ [])
 -- their number is 0
 three-number : correctionNumber (readingOf three) ≡ 0
 unfolding three lowestFrom tabulateFrom total fromBits places seek guardedPlace number mended placeAt bitAt packed
-    indexIn readingOf recordMark hzTable hertzOf markOf
+    indexIn readingOf recordMark hzTable hertzOf markOf correctionOf
 three-number = refl
 
 -- and PD(1)-5 is read as 1

@@ -8,12 +8,18 @@ use lib.ListN.{getD, take}
 use lib.Seq.{take-take, getD-take}
 use Rattle.blocks.specs.Frames.{framesOf}
 use Rattle.passes.specs.Pass.{hearingOf, stateThrough}
+use Rattle.passes.specs.declared.Hearing.{Hearing}
 use Rattle.passes.proofs.Hearings.{heard-there, heard-beyond, heard-before-first}
 use Rattle.passes.proofs.Through as through
-use Rattle.promises.specs.Running.{StateRunsOn, NothingBeyond, PassHears, PassCounts, SoFarAlone}
+use Rattle.promises.specs.Running.{StateRunsOn, CorrectionPassedOn, NothingBeyond, PassHears, PassCounts}
+use Rattle.promises.specs.Running.{SoFarAlone}
 
 pub state-runs-on : StateRunsOn
 state-runs-on before s k h = heard-there before (framesOf s) k h
+
+pub correction-passed-on : CorrectionPassedOn
+unfolding hearingOf
+correction-passed-on before s k h = ap (λ (x : Hearing). x .reading .correction) (heard-there before (framesOf s) k h)
 
 pub nothing-beyond : NothingBeyond
 nothing-beyond before s = (heard-before-first before (framesOf s), λ k h. heard-beyond before (framesOf s) k h)

@@ -15,6 +15,7 @@ use Rattle.lsp.specs.Order.{markOf}
 use Rattle.draws.specs.Draw.{freshGenerator, wrapped, drawOf}
 use Rattle.frame.specs.Places.{places, seek}
 use Rattle.frame.specs.Parity.{guardedPlace, number, mended}
+use Rattle.frame.specs.Correction.{correctionOf, dataNumber}
 use Rattle.frame.specs.Frame.{placeAt, bitAt, packed, indexIn}
 use Rattle.frame.specs.Answers.{readingOf, recordMark}
 use Rattle.promises.specs.Worked.{workedNumbers, AllTwelve}
@@ -22,6 +23,6 @@ use Rattle.promises.specs.Worked.{workedNumbers, AllTwelve}
 pub all-twelve : AllTwelve
 unfolding AllTwelve workedNumbers apart nearestOf twelfthsOf printedByte rankOf rankWith meantBy averagesOf delaysOf
     lowestFrom tabulateFrom total fromBits placeIn cgTable pgTable delays bytes hzTable tooLarge hertzOf markOf
-    freshGenerator wrapped drawOf places seek guardedPlace number mended placeAt bitAt packed indexIn readingOf
-    recordMark
+    freshGenerator wrapped drawOf places seek guardedPlace number mended correctionOf dataNumber placeAt bitAt packed indexIn
+    readingOf recordMark
 all-twelve = tt

@@ -1,16 +1,16 @@
 -- The C boundary (document 01, "What the work covers"): "the record as 28 byte pairs (16 bits, little-endian, in
 -- field order). The reader's C result is 16 times the order mark plus the correction number, the writer's is 0; a
--- refusal is minus its number."
+-- refusal is minus its number." Document 02, K5: it "grows by 256 for a parity hit and 512 for a data hit".
 use mathlib.Core.Path.{_≡_}
 use mathlib.Core.List.{List}
-use Prim.Native.Nat.{ℕ, _/_, _%_, _<_}
+use Prim.Native.Nat.{ℕ, _+_, _*_, _/_, _%_, _<_}
 use lib.IntN.{pos, negℤ}
 use lib.ListN.{length, getD}
 use Rattle.record.specs.declared.Record.{Record}
 use Rattle.frame.specs.Frame.{frameOf}
 use Rattle.frame.specs.Answers.{readingOf, correctionNumber, writtenOf, refusalOf}
 use Rattle.pairs.specs.Pairs.{bytesOf, recordIn}
-use Rattle.gateway.specs.Results.{readResult, recordLeft, writeResult, frameLeftBy}
+use Rattle.gateway.specs.Results.{kindOf, readResult, recordLeft, writeResult, frameLeftBy}
 use Rattle.promises.specs.Frames.{Shaped}
 
 -- 56 bytes
@@ -23,12 +23,15 @@ unfoldable pub PairsHoldRecord : Type 0
 PairsHoldRecord =
     ((r : Record) → Shaped r → recordIn (bytesOf r) ≡ r) × ((s : List ℕ) → FiftySix s → bytesOf (recordIn s) ≡ s)
 
--- the reader's result comes apart into mark and number, and the buffer holds the record
+-- the reader's result comes apart into kind, mark and number, and the buffer holds the record. Without the kind it is
+-- what it was before there were kinds.
 pub record ReadsInto (s o : List ℕ) : Type 0 where
   pub told : ℕ
   pub result : readResult s (length o) ≡ pos told
-  pub mark : told / 16 ≡ readingOf s .mark
+  pub kind : 256 * (told / 256) ≡ kindOf (readingOf s .correction)
+  pub mark : told / 16 % 16 ≡ readingOf s .mark
   pub number : told % 16 ≡ correctionNumber (readingOf s)
+  pub as-before : told % 256 ≡ 16 * readingOf s .mark + correctionNumber (readingOf s)
   pub left : recordLeft s o ≡ bytesOf (readingOf s .indices)
 
 unfoldable pub ReadTells : Type 0

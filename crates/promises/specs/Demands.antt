@@ -1,7 +1,7 @@
 -- The three demands, in the words of the person this is built for, and under each the statements that meet it; then
 -- what is promised of the salvage tool, of the tally book and of sync breaks. A reviewer starts here:
 -- each name below is a statement of the file beside it, and proofs/Demands.antt holds a proof of every one.
-use Rattle.listing.specs.Promised.{ListingFits, ListingStands, FaultsListed, RefusedListingStays}
+use Rattle.listing.specs.Promised.{ListingFits, ListingStands, FaultsListed, LetterListed, RefusedListingStays}
 use Rattle.salvage.specs.Promised.{SalvageRefuses, SalvageStands, SalvagedAccepted, KeptUpToRefusal, SoundUnchanged}
 use Rattle.salvage.specs.Promised.{SalvagedAgain, FewestGo, NoEmptyBlock, KeptStands}
 use Rattle.changes.specs.Promised.{ChangesTold, ChangesFit}
@@ -15,7 +15,8 @@ use Rattle.promises.specs.Refused.{RefusedWriteStays, HearingRefuses, Re
 use Rattle.promises.specs.Refused.{NothingStays, HertzRefuses, MeaningRefuses, DelaysRefuse, CodeRefuses}
 use Rattle.promises.specs.Refused.{RefusedCodeStays}
 use Rattle.promises.specs.Repairs.{CleanChangesNothing, ParityHitChangesNothing, DataHitInvertsOne}
-use Rattle.promises.specs.Repairs.{TwoNeverMended, UnguardedUnseen, ThreeUnseen, FifteenPlaces}
+use Rattle.promises.specs.Repairs.{CaseOfEach, OneNumberEach, TwoNeverMended, UnguardedUnseen, ThreeUnseen}
+use Rattle.promises.specs.Repairs.{FifteenPlaces}
 use Rattle.promises.specs.Boundary.{PairsHoldRecord, ReadTells, WriteTells, BoundaryReadsBack}
 use Rattle.promises.specs.Values.{NearestEntry, GainsComeBack, CgMirrored, GainsHeard, DelaysRise, EachByteOnce}
 use Rattle.promises.specs.Values.{DelaysComeBack, FixedWindows, DelaysHeard, LspsHeard, MarkHeard, MarkIsLowest}
@@ -30,7 +31,8 @@ use Rattle.promises.specs.Parts.{VoiceBlocksStand, NoSuchBlock, FramesAr
 use Rattle.promises.specs.Parts.{RepairsCounted, BreaksCounted, RefusedHasNone, EmptyRefused}
 use Rattle.promises.specs.Breaks.{BreakExactly, SyncRunsOn, LeftOut, OneLost, FirstLost, LastLost, TwoLost}
 use Rattle.promises.specs.Breaks.{ManyLost}
-use Rattle.promises.specs.Running.{StateRunsOn, NothingBeyond, PassHears, PassCounts, SoFarAlone}
+use Rattle.promises.specs.Running.{StateRunsOn, CorrectionPassedOn, NothingBeyond, PassHears, PassCounts}
+use Rattle.promises.specs.Running.{SoFarAlone}
 use Rattle.promises.specs.Worked.{AllTwelve}
 use Rattle.promises.specs.Tally.{SalvagedSameKey}
 
@@ -145,6 +147,7 @@ pub record DemandTwo : Type 0 where
   pub repairs-counted : RepairsCounted
   pub breaks-counted : BreaksCounted
   pub state-runs-on : StateRunsOn
+  pub correction-passed-on : CorrectionPassedOn
   pub nothing-beyond : NothingBeyond
   pub pass-hears : PassHears
   pub pass-counts : PassCounts
@@ -152,6 +155,7 @@ pub record DemandTwo : Type 0 where
   -- the listing
   pub listing-fits : ListingFits
   pub listing-stands : ListingStands
+  pub letter-listed : LetterListed
 
 -- "Take a frame our writer made and flip any set of its bits. The indices then read are the written ones, with exactly
 -- those bits reversed that come out as 1 when the flips alone are read as a frame; the correction number reported is
@@ -165,7 +169,10 @@ pub record DemandThree : Type 0 where
   pub one-flip : OneFlip
   pub two-reported : TwoReported
   pub two-flips : TwoFlips
-  -- what a number does to what is read, and what no number shows
+  -- what a correction does to what is read (document 02, K5: "clean, a parity bit hit with its number, a data bit inverted
+  -- with its field and bit"), and what none shows
+  pub case-of-each : CaseOfEach
+  pub one-number-each : OneNumberEach
   pub clean-changes-nothing : CleanChangesNothing
   pub parity-hit-changes-nothing : ParityHitChangesNothing
   pub data-hit-inverts-one : DataHitInvertsOne

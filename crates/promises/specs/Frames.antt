@@ -14,6 +14,7 @@ use Rattle.frame.specs.Places.{fieldOf, bitOf}
 use Rattle.frame.specs.Parity.{guardedName, guardedPlace}
 use Rattle.frame.specs.Frame.{bitAt, frameOf}
 use Rattle.frame.specs.Answers.{readingOf, correctionNumber, writtenOf, frameLeft}
+use Rattle.frame.specs.declared.Correction.the-variants as Correction
 use Rattle.frame.specs.declared.Reading.{Reading}
 use Rattle.frame.specs.declared.Verdict.the-variants as Verdict
 use Rattle.frame.specs.declared.Written.the-variants as Written
@@ -28,11 +29,11 @@ pub record Eighteen (s : List ℕ) : Type 0 where
   pub long : length s ≡ 18
   pub bytes : (k : ℕ) → k < 18 → getD s k 0 < 256
 
--- "A record the writer accepts reads back equal": the same record, correction number 0, order mark 0.
+-- "A record the writer accepts reads back equal": the same record, clean, order mark 0.
 unfoldable pub ReadsBack : Type 0
 ReadsBack =
     (r : Record) (s : List ℕ) → Shaped r → writtenOf r (length s) ≡ Written.Frame
-    → readingOf (frameLeft r s) ≡ record { verdict = Verdict.Read; indices = r; number = 0; mark = 0 }
+    → readingOf (frameLeft r s) ≡ record { verdict = Verdict.Read; indices = r; correction = Correction.Clean; mark = 0 }
 
 -- "A frame that is read writes back to the same bits exactly when its parity was clean, its expansion bit 0 and its
 -- parameters in order", whatever the lent buffer t held.
@@ -58,10 +59,12 @@ pub record Made (r : Record) (w : List ℕ) : Type 0 where
 abbrev pub flipped : List ℕ → List ℕ → List ℕ
 flipped w e = tabulate (λ k. bitXor (getD w k 0) (getD e k 0)) 18
 
--- what is read in a flipped frame, beside the written record and what is read in the flips alone
+-- what is read in a flipped frame, beside the written record and what is read in the flips alone. The correction is the
+-- one for the flips alone (document 02, K5), and so is its number.
 pub record OfTheFlips (written : Record) (alone damaged : Reading) : Type 0 where
   pub indices : (f : ℕ) → 1 ≤ f → f ≤ 28
       → indexOf (damaged .indices) f ≡ bitXor (indexOf written f) (indexOf (alone .indices) f)
+  pub correction : damaged .correction ≡ alone .correction
   pub number : correctionNumber damaged ≡ correctionNumber alone
 
 -- "Take a frame our writer made and flip any set of its bits. The indices then read are the written ones, with

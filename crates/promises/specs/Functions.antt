@@ -11,6 +11,7 @@ use denote.Triple.Clauses.{AtExit}
 use borrow.Fn.Kinds.{Dens, endedOf}
 use Rattle.record.specs.declared.Record.{Record}
 use Rattle.frame.specs.Answers.{correctionNumber}
+use Rattle.frame.specs.declared.Correction.the-variants as Correction
 use Rattle.frame.specs.declared.Reading.{Reading}
 use Rattle.frame.specs.declared.Verdict.the-variants as Verdict
 use Rattle.frame.specs.declared.Written.{Written}
@@ -44,7 +45,7 @@ pub record Leaves (r : Record) (s : List ℕ) (a : Written) (t : List ℕ) : Typ
 unfoldable pub WriteThenRead : Type 0
 WriteThenRead =
     (r : Record) (s t : List ℕ) (d : Reading) → Shaped r → Leaves r s Written.Frame t → Answers t d
-    → d ≡ record { verdict = Verdict.Read; indices = r; number = 0; mark = 0 }
+    → d ≡ record { verdict = Verdict.Read; indices = r; correction = Correction.Clean; mark = 0 }
 
 -- what `write` leaves of the record that `read` answered: the same bytes exactly when the reading was clean
 unfoldable pub ReadThenWrite : Type 0
@@ -62,8 +63,8 @@ pub record Damaged (r : Record) (w e : List ℕ) (alone damaged : Reading) : Typ
   pub reads-alone : Answers e alone
   pub reads-damaged : Answers (flipped w e) damaged
 
--- in each of the 28 fields the index read is the written one, exclusive or that of the flips alone; the number is
--- that of the flips alone
+-- in each of the 28 fields the index read is the written one, exclusive or that of the flips alone; the correction, and
+-- so its number, is that of the flips alone
 unfoldable pub RepairByDamage : Type 0
 RepairByDamage =
     (r : Record) (w e : List ℕ) (alone damaged : Reading) → Damaged r w e alone damaged → OfTheFlips r alone damaged

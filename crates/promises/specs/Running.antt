@@ -3,6 +3,7 @@ use mathlib.Core.Path.{_≡_}
 use mathlib.Core.List.{List, []}
 use Prim.Native.Nat.{ℕ, suc, _<_, _≤_}
 use lib.ListN.{length, getD, take}
+use Rattle.frame.specs.Answers.{readingOf}
 use Rattle.values.specs.declared.State.{State}
 use Rattle.blocks.specs.Frames.{framesOf}
 use Rattle.passes.specs.Counted.{countsTo, countsOf}
@@ -15,6 +16,13 @@ StateRunsOn =
     (before : State) (s : List ℕ) (k : ℕ) → k < length (framesOf s)
     → frameHeard before (framesOf s) (suc k) ≡ hearingOf (stateThrough before (take k (framesOf s)))
     (getD (framesOf s) k [])
+
+-- the answer that has a frame's values has its correction too, that of the frame read by itself, whatever came before it
+-- and whether it is refused with 6 or not (document 02, K5)
+abbrev pub CorrectionPassedOn : Type 0
+CorrectionPassedOn =
+    (before : State) (s : List ℕ) (k : ℕ) → k < length (framesOf s)
+    → frameHeard before (framesOf s) (suc k) .reading .correction ≡ readingOf (getD (framesOf s) k []) .correction
 
 -- before the first there is nothing, and the state is as it came; past the last there is nothing, and it is the one
 -- after all frames

@@ -19,7 +19,7 @@ use Rattle.lsp.specs.Order.{markOf}
 use Rattle.lsp.specs.Average.{averagesOf}
 use Rattle.draws.specs.Draw.{draws, freshGenerator}
 use Rattle.frame.specs.Frame.{packed}
-use Rattle.frame.specs.Answers.{readingOf}
+use Rattle.frame.specs.Answers.{readingOf, correctionNumber}
 use Rattle.values.specs.Values.{delaysIn, delaysOf}
 
 -- what the definitions give, and what document 01 prints
@@ -42,7 +42,7 @@ only set = packed (λ p. isIn p set)
 
 -- the correction number of a frame, then its 28 indices
 abbrev pub read : List ℕ → List ℤ
-read s = plain (readingOf s .number ∷ tabulate (λ k. indexOf (readingOf s .indices) (suc k)) 28)
+read s = plain (correctionNumber (readingOf s) ∷ tabulate (λ k. indexOf (readingOf s .indices) (suc k)) 28)
 
 abbrev pub zeros : ℕ → List ℤ
 zeros n = tabulate (λ k. pos 0) n
@@ -72,7 +72,7 @@ workedNumbers =
       number = 4;
       given =
           plain
-          (readingOf (only (11 ∷ 61 ∷ [])) .number ∷
+          (correctionNumber (readingOf (only (11 ∷ 61 ∷ []))) ∷
           indexOf (readingOf (only (11 ∷ 61 ∷ [])) .indices) 11 ∷
           getD (delaysOf (readingOf (only (11 ∷ 61 ∷ [])) .indices)) 0 0 ∷ []);
       printed = plain (6 ∷ 224 ∷ 748 ∷ []);

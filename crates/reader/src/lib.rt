@@ -1,6 +1,7 @@
 // Reading a frame: 18 bytes to an index record with correction.
 // The table of 3.8.2 is followed one place at a time. Between the bytes and the record the indices stand in one list by field
 // number, the four parity bits under 0, as `parity` corrects it.
+use frame::Correction;
 use frame::Reading;
 use frame::Verdict;
 use record::Record;
@@ -25,18 +26,18 @@ pub fn read(frame: &[u8]) -> Reading
                 sp: 0,
                 sy: 0,
             },
-            number: 0,
+            correction: Correction::Clean,
             mark: 0,
         };
     }
     let received = gather(frame);
-    let number = parity::number_of(received);
-    let indices = to_record(parity::mend(received, number));
+    let correction = parity::correction_of(parity::number_of(received));
+    let indices = to_record(parity::mend(received, correction));
     let mark = marks::mark_of(indices);
     Reading {
         verdict: Verdict::Read,
         indices,
-        number,
+        correction,
         mark,
     }
 }

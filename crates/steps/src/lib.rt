@@ -1,5 +1,6 @@
 // A step of a pass: the next frame is heard with the state so far and counted, and the pass goes past it.
 use blocks::Found;
+use frame::Correction;
 use passes::Counts;
 use passes::Hearing;
 use passes::Pass;
@@ -73,10 +74,10 @@ fn past(pass: Pass, hearing: Hearing, end: usize, left: usize) -> Pass
     ensures { λ r. ⌜ r ≡ pastFrame pass hearing end left ⌝ }
 {
     let frames = pass.frames + 1;
-    let number = hearing.reading.correction_number();
+    let correction = correction_in(hearing);
     let last = last_before(pass);
     let at = breaks_at(last);
-    let counts = counted(pass.counts, number, hearing.reading.indices.sy, at);
+    let counts = counted(pass.counts, correction, hearing.reading.indices.sy, at);
     let state = hearing.values.state;
     Pass {
         at: end,
@@ -85,6 +86,15 @@ fn past(pass: Pass, hearing: Hearing, end: usize, left: usize) -> Pass
         counts,
         state,
     }
+}
+
+// What correction did in a frame that was heard.
+fn correction_in(hearing: Hearing) -> Correction
+    ensures { λ r. ⌜ r ≡ hearing .reading .correction ⌝ }
+{
+    let reading = hearing.reading;
+    let correction = reading.correction;
+    correction
 }
 
 // The last SY before the next frame of a pass, in whichever voice block that stands.
@@ -106,25 +116,26 @@ fn breaks_at(last: LastSy) -> u16
     }
 }
 
-// Counts with a frame counted too, by its correction number, its SY and the SY at which it is a break.
-fn counted(counts: Counts, number: usize, sy: u16, at: u16) -> Counts
+// Counts with a frame counted too, by what correction did, its SY and the SY at which it is a break.
+fn counted(counts: Counts, correction: Correction, sy: u16, at: u16) -> Counts
     requires { ⌜ counts .repaired ≤ longest ⌝ }
     requires { ⌜ counts .breaks ≤ longest ⌝ }
-    ensures { λ r. ⌜ r ≡ countingOf counts number sy at ⌝ }
+    ensures { λ r. ⌜ r ≡ countingOf counts correction sy at ⌝ }
 {
-    let repaired = counts.repaired + repair_by(number);
+    let repaired = counts.repaired + repair_by(correction);
     let breaks = counts.breaks + break_by(sy, at);
     Counts { repaired, breaks }
 }
 
-// 1 for a repaired frame, by its correction number.
-fn repair_by(number: usize) -> u32
-    ensures { λ r. ⌜ r ≡ repairOf number ⌝ }
+// 1 for a repaired frame: one in which a data bit was inverted.
+fn repair_by(correction: Correction) -> u32
+    ensures { λ r. ⌜ r ≡ repairOf correction ⌝ }
 {
-    if number == 0 {
-        return 0;
+    match correction {
+        Correction::Clean => 0,
+        Correction::Parity(_) => 0,
+        Correction::Data(_, _) => 1,
     }
-    1
 }
 
 // 1 for a sync break, by its SY and the SY at which it is one.

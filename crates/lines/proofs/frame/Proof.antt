@@ -1,4 +1,4 @@
--- `lines::frame` meets its contract: the refusal, or the numbers of what was heard.
+-- `lines::frame` meets its contract: the refusal, or the numbers of what was heard, after the correction and its letter.
 -- Assumes nothing.
 use native.Mathlib.Omega.{arith}
 use Rattle.lines.proofs.Lines.{said-refused, said-heard}
@@ -6,14 +6,21 @@ use Rattle.lines.proofs.frame.Statement.{statement}
 use Rattle.lines.proofs.frame.Tie as tie
 
 returns : tie.Need-returns
-returns c = let t = c .before .before in said-refused (t .before .before .before .args .said) (t .if1 .taken)
+returns c =
+    let l = c .before .before .before .before in
+    let n = l .before in
+    said-refused (n .before .before .args .said) (l .letter-of .ensures) (n .number-for .ensures) (c .before .before .if1 .taken)
 
 returns-2 : tie.Need-returns-2
-returns-2 c = let e = c .before .before .before .before .before .before .before in
-    said-heard (e .before .before .before .args .said) (e .if1 .left)
+returns-2 c =
+    let e = c .before .before .before .before .before .before .before in
+    let l = e .before .before in
+    let n = l .before in
+    said-heard (n .before .before .args .said) (l .letter-of .ensures) (n .number-for .ensures) (e .if1 .left)
 
 pub frame-spec : {M : Type 1} → statement M
 frame-spec =
     tie.close
-    (tie.spec (λ c. omega arith) (λ c. omega arith) returns (λ c. omega arith) (λ c. omega arith) (λ c. omega arith)
-    (λ c. omega arith) (λ c. omega arith) returns-2)
+    (tie.spec (λ c. omega arith) (λ c κs. tt) (λ c κs. tt) (λ c. omega arith) (λ c. omega arith) returns
+    (λ c. omega arith) (λ c. omega arith) (λ c. omega arith) (λ c. omega arith) (λ c. omega arith) (λ c. omega arith)
+    returns-2)

@@ -7,10 +7,9 @@ returns : tie.Need-returns
 returns c =
     let r = c .before .before in
     let a = r .before .before .args in
-    said-of (a .n) (a .hearing) (r .refusal-number .ensures) (c .correction-number .ensures)
+    said-of (a .n) (a .hearing) (r .refusal-number .ensures)
 
 pub said-spec : {M : Type 1} → statement M
 said-spec =
     tie.close
-    (tie.spec (λ c κs. tt) (λ c κs. tt) (λ c. omega arith) (λ c. omega arith) (λ c. omega arith) (λ c. omega arith)
-    returns)
+    (tie.spec (λ c κs. tt) (λ c. omega arith) (λ c. omega arith) (λ c. omega arith) (λ c. omega arith) returns)

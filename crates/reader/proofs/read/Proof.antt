@@ -12,12 +12,13 @@ returns c = read-refused _ (c .if1 .taken)
 returns-2 : tie.Need-returns-2
 returns-2 c =
     let at-mend = c .before .before in
-    let at-gather = at-mend .before .before in
-    read-whole _ _ _ (at-gather .gather .ensures) (at-mend .before .number-of .ensures) _ _ _
-    (at-gather .before .if1 .left)
+    let at-case = at-mend .before in
+    let at-gather = at-case .before .before in
+    read-whole _ _ _ (at-gather .gather .ensures) (at-case .before .number-of .ensures) _ _ _ _
+    (at-gather .before .if1 .left) (at-case .correction-of .ensures)
     (at-mend .mend .ensures) (c .before .to-record .ensures) (c .mark-of .ensures)
 
 pub read-spec : {M : Type 1} → statement M
 read-spec =
     tie.close
-    (tie.spec returns (λ c κs. c .if1 .left) (λ c κs. tt) (λ c κs. tt) (λ c κs. tt) (λ c κs. tt) returns-2)
+    (tie.spec returns (λ c κs. c .if1 .left) (λ c κs. tt) (λ c κs. tt) (λ c κs. tt) (λ c κs. tt) (λ c κs. tt) returns-2)

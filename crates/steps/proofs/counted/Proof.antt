@@ -5,7 +5,7 @@ use Rattle.steps.proofs.counted.Statement.{statement}
 use Rattle.steps.proofs.counted.Tie as tie
 
 add-repaired : tie.Need-add-repaired
-add-repaired c = omega (arith, c .before .repair-by .ensures, repair-small (c .before .before .args .number))
+add-repaired c = omega (arith, c .before .repair-by .ensures, repair-small (c .before .before .args .correction))
 
 add-breaks : tie.Need-add-breaks
 add-breaks c =
@@ -15,7 +15,7 @@ add-breaks c =
 returns : tie.Need-returns
 returns c =
     let s = c .before .before .before .before in
-    counted (s .args .counts) (s .args .number) (s .args .sy) (s .args .at)
+    counted (s .args .counts) (s .args .correction) (s .args .sy) (s .args .at)
     (c .before .before .before .repair-by .ensures) (c .before .break-by .ensures)
 
 pub counted-spec : {M : Type 1} → statement M

@@ -15,7 +15,7 @@ returns c =
     let l = a .before in
     let n = l .before in
     let s = n .before .before in
-    past-frame (s .args .pass) (s .args .hearing) _ _ (n .correction-number .ensures)
+    past-frame (s .args .pass) (s .args .hearing) _ _ (n .correction-in .ensures)
     (a .breaks-at .ensures ∙ ap breaksAt (l .last-before .ensures)) (c .before .counted .ensures)
 
 pub past-spec : {M : Type 1} → statement M
