@@ -108,6 +108,7 @@ static int parity_number(const uint16_t *fields)
 int32_t plain_read_frame(const uint8_t *frame, size_t frame_len, uint8_t *record, size_t record_len)
 {
     uint16_t fields[FIELDS + 1] = { 0 };
+    int hit = 0;
     int number;
     int i;
 
@@ -120,12 +121,13 @@ int32_t plain_read_frame(const uint8_t *frame, size_t frame_len, uint8_t *record
         const struct place *p = &TABLE[GUARDED[number - 1] - 1];
 
         fields[p->field] ^= (uint16_t)(1 << p->bit);
+        hit = p->field == 0 ? 256 : 512;
     }
     for (i = 0; i < FIELDS; i++) {
         record[2 * i] = (uint8_t)(fields[i + 1] & 255);
         record[2 * i + 1] = (uint8_t)(fields[i + 1] >> 8);
     }
-    return 16 * order_mark(fields) + number;
+    return hit + 16 * order_mark(fields) + number;
 }
 
 int32_t plain_write_frame(const uint8_t *record, size_t record_len, uint8_t *frame, size_t frame_len)

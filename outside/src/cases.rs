@@ -368,6 +368,7 @@ pub fn edges() -> Vec<Edge> {
     edges.wild_at_the_limit();
     edges.breaks();
     edges.refused_and_breaks();
+    edges.hits();
     edges.0
 }
 
@@ -376,6 +377,36 @@ struct Edges(Vec<Edge>);
 /// Voice blocks of the frames of a voice that has SY 0, 1, 0 and so on, by their numbers from 1 on:
 /// below 0 the frame is refused with 6, and 10 more than its number has its SY hit.
 type Told<'a> = &'a [&'a [i8]];
+
+/// Where frames are hit: of each the correction numbers of guarded places.
+type Hits<'a> = &'a [&'a [usize]];
+
+/// One hit that shows each correction number, 0 to 15, on a frame that is clean as sent.
+#[rustfmt::skip]
+pub const ONE_HIT: [&[usize]; 16] = [
+    &[], &[1], &[2], &[3], &[4], &[5], &[6], &[7], &[8], &[9], &[10], &[11], &[12], &[13], &[14], &[15],
+];
+
+/// Two hits that show each, and three that show 0. None is mended, and 15 sets SP.
+#[rustfmt::skip]
+const FEW_HITS: [&[usize]; 16] = [
+    &[1, 2, 3], &[2, 3], &[1, 3], &[1, 2], &[1, 5], &[1, 4], &[2, 4], &[3, 4],
+    &[1, 9], &[1, 8], &[2, 8], &[3, 8], &[4, 8], &[5, 8], &[6, 8], &[7, 8],
+];
+
+/// Hits that show each and leave SP set, on a frame that has SP 0 as sent.
+#[rustfmt::skip]
+pub const SETTING_SP: [&[usize]; 16] = [
+    &[1, 14, 15], &[14, 15], &[13, 15], &[12, 15], &[11, 15], &[10, 15], &[9, 15], &[8, 15],
+    &[7, 15], &[6, 15], &[5, 15], &[4, 15], &[3, 15], &[2, 15], &[1, 15], &[7, 8],
+];
+
+/// Hits on parity bits alone that show each number of a data bit; the last one sets SP.
+#[rustfmt::skip]
+const DATA_BY_PARITY: [&[usize]; 11] = [
+    &[1, 2], &[1, 4], &[2, 4], &[1, 2, 4], &[1, 8], &[2, 8], &[1, 2, 8], &[4, 8], &[1, 4, 8], &[2, 4, 8],
+    &[1, 2, 4, 8],
+];
 
 /// The length of the head, and of the smallest sound recording up to its end block.
 const AFTER_HEAD: u32 = 14;
@@ -504,10 +535,7 @@ impl Edges {
         for c in 1..=15 {
             frame::flip(&mut expansion[c], GUARDED[c - 1]);
         }
-        self.sound_one(
-            "expansion bit set, and repaired",
-            sound(3, 4, &[&expansion]),
-        );
+        self.sound_one("expansion bit set, and hit", sound(3, 4, &[&expansion]));
         let mut lsps_kept = vec![
             frame::lay(&g.record()),
             expansion[0],
@@ -1371,6 +1399,76 @@ impl Edges {
         }
     }
 
+    /// Frames hit at guarded places: each correction number, heard and refused with 6; parity hits
+    /// alone, data hits alone, and all kinds over the edges of voice blocks.
+    fn hits(&mut self) {
+        let heard = spoken(29, 32);
+        let refused: Vec<Frame> = heard.iter().map(expanded).collect();
+        let mut g = Generator::new(29);
+        let mut fallen = |k: u16| {
+            let mut record = g.falling_record();
+            record.fields[27] = k % 2;
+            frame::lay(&record)
+        };
+        let falling: Vec<Frame> = (0..16).map(&mut fallen).collect();
+
+        let down: Vec<&[usize]> = ONE_HIT.into_iter().rev().collect();
+        self.hit("each number in turn", &heard, &ONE_HIT, &[16]);
+        self.hit("each number, from 15 down", &heard, &down, &[1, 3, 5, 7]);
+        self.hit("each number in its own voice", &heard, &ONE_HIT, &[1; 16]);
+        self.hit("each number, LSPs that fall", &falling, &ONE_HIT, &[9, 7]);
+        self.hit("each number refused", &refused, &ONE_HIT, &[16]);
+        self.hit("each number refused by hits", &heard, &SETTING_SP, &[6, 10]);
+        self.hit("each number by few hits", &heard, &FEW_HITS, &[11, 5]);
+        let name = "each number of a data bit by parity bits";
+        self.hit(name, &heard, &DATA_BY_PARITY, &[4, 7]);
+        // Each number heard, and then refused.
+        let (both, twice): (Vec<Frame>, Vec<&[usize]>) = (0..32)
+            .map(|k| ([&heard, &refused][k % 2][k], ONE_HIT[k / 2]))
+            .unzip();
+        let name = "each number heard and refused";
+        self.hit(name, &both, &twice, &[1, 2, 14, 15]);
+
+        let one = |n: usize| ONE_HIT[n];
+        let parity = [1, 2, 4, 8, 8, 4, 2, 1].map(one);
+        let data = [3, 5, 6, 7, 9, 10, 11, 12, 13, 14, 15].map(one);
+        for (sent, how) in [(&heard, ""), (&refused, ", refused")] {
+            self.hit(&format!("parity hits alone{how}"), sent, &parity, &[3, 5]);
+            self.hit(&format!("data hits alone{how}"), sent, &data, &[4, 7]);
+        }
+        let turns = [1, 3, 2, 15, 4, 14, 8, 9].map(one);
+        let name = "parity and data hits by turns, each in its own voice";
+        self.hit(name, &heard, &turns, &[1; 8]);
+        // The second and the third of each three are refused.
+        let mixed: Vec<Frame> = (0..12)
+            .map(|k| [&heard, &refused, &refused][k % 3][k])
+            .collect();
+        let kinds = [0, 0, 1, 6, 15, 0, 8, 2, 13, 0, 4, 3].map(one);
+        let name = "clean, parity and data hits over voices";
+        self.hit(name, &mixed, &kinds, &[2, 1, 4, 1, 3, 1]);
+        for (sent, how) in [(&heard, "one frame"), (&refused, "one frame refused")] {
+            for (what, number) in [("a parity hit", 2), ("a data hit", 12)] {
+                let name = format!("{how}, {what}");
+                self.hit(&name, sent, &ONE_HIT[number..=number], &[1]);
+            }
+        }
+    }
+
+    /// A sound recording of frames as sent, each hit, in voice blocks of so many.
+    fn hit(&mut self, name: &str, sent: &[Frame], hits: Hits, counts: &[usize]) {
+        let hit = |(frame, numbers): (&Frame, &&[usize])| hit_at(*frame, numbers);
+        let frames: Vec<Frame> = sent.iter().zip(hits).map(hit).collect();
+        let mut rest = &frames[..];
+        let mut voice = Vec::new();
+        for &count in counts {
+            let (block, after) = rest.split_at(count);
+            voice.push(block);
+            rest = after;
+        }
+        assert!(rest.is_empty(), "{name}: {} frames left", rest.len());
+        self.sound_one(name, sound(11, self.0.len() as u32, &voice));
+    }
+
     /// A sound recording of the voice blocks told.
     fn told(&mut self, name: &str, voice: Told) {
         let frames = spoken(23, 8);
@@ -1423,6 +1521,21 @@ impl Edges {
         let name = format!("{} bytes, {voices}{said}, {then}", bytes.len());
         self.add(name, bytes, Some(refusal));
     }
+}
+
+/// A frame hit at guarded places, by their correction numbers.
+pub fn hit_at(mut frame: Frame, numbers: &[usize]) -> Frame {
+    for number in numbers {
+        frame::flip(&mut frame, GUARDED[number - 1]);
+    }
+    frame
+}
+
+/// A frame that is sent with SP 1.
+fn expanded(frame: &Frame) -> Frame {
+    let mut record = frame::read_frame(frame).record;
+    record.fields[26] = 1;
+    frame::lay(&record)
 }
 
 /// A head and 0, 1 or 2 voice blocks, of two frames and of one.

@@ -1,12 +1,14 @@
-//! Cases of frames and records through the C boundary, and of recordings and values at places that no
-//! recording leads to, with what is printed of each. CASES.md sets out both to the letter.
+//! Cases of frames and records through the C boundary, of recordings and values at places that no
+//! recording leads to, and of corrections by themselves, with what is printed of each. CASES.md sets
+//! out both to the letter.
 
-use crate::cases::{self, Frame, Generator};
-use crate::frame::{self, Record, FRAME_LENGTH, RECORD_LENGTH};
+use crate::cases::{self, Frame, Generator, ONE_HIT, SETTING_SP};
+use crate::frame::{self, Correction, Record, FRAME_LENGTH, RECORD_LENGTH};
 use crate::lsp::State;
 use crate::recording::{self, Counts, HEADER_LENGTH, VOICE};
-use crate::tables::GUARDED;
+use crate::tables::{FIELDS, GUARDED, WIDTHS};
 use crate::values::{self, Values};
+use std::collections::BTreeSet;
 
 /// The bytes of a case.
 pub const CASE_LENGTH: usize = 128;
@@ -46,6 +48,11 @@ fn answer(out: &mut Vec<u8>, kind: u8, given: &[u8], n: usize) {
         b'r' => lent(out, n, |buffer| frame::read_c(given, buffer)),
         b'w' => lent(out, n, |buffer| frame::write_c(given, buffer)),
         b'k' => frame_heard(out, given, n),
+        b'c' => {
+            say_correction(out, Correction::of(n));
+            say(out, [usize::from(data_hit(n).number())]);
+        }
+        b'm' => say(out, numbers_after(given, data_hit(n)).map(usize::from)),
         b'f' => {
             if let Some((first, rest)) = find(given, n % 256, n / 256) {
                 say(out, [first, rest]);
@@ -66,7 +73,38 @@ fn lent(out: &mut Vec<u8>, long: usize, call: impl FnOnce(&mut [u8]) -> i32) {
     say(out, buffer.map(usize::from));
 }
 
-/// Frame k of a recording: its correction number, and its values under the state before it.
+/// A correction: its number, and then 0 if it is clean, 1 for a parity hit, and for a data hit 2, the field
+/// and the bit.
+fn say_correction(out: &mut Vec<u8>, correction: Correction) {
+    say(out, [usize::from(correction.number())]);
+    match correction {
+        Correction::Clean => say(out, [0]),
+        Correction::Parity(_) => say(out, [1]),
+        Correction::Data { field, bit } => say(out, [2, field.into(), bit.into()]),
+    }
+}
+
+/// A data hit that names bit n / 256 of field n mod 256.
+fn data_hit(n: usize) -> Correction {
+    let [field, bit] = (n as u16).to_le_bytes();
+    Correction::Data { field, bit }
+}
+
+/// Twenty-nine numbers, 0 where they are not given, after a data hit whose field counts them from 0 on.
+fn numbers_after(given: &[u8], hit: Correction) -> [u16; FIELDS + 1] {
+    let byte = |at: usize| given.get(at).copied().unwrap_or(0);
+    let mut numbers =
+        std::array::from_fn(|at| u16::from_le_bytes([byte(2 * at), byte(2 * at + 1)]));
+    if let Correction::Data { field, bit } = hit {
+        let mask = 1u16.checked_shl(bit.into()).unwrap_or(0);
+        if let Some(number) = numbers.get_mut(usize::from(field)) {
+            *number ^= mask;
+        }
+    }
+    numbers
+}
+
+/// Frame k of a recording: its correction, and its values under the state before it.
 fn frame_heard(out: &mut Vec<u8>, recording: &[u8], k: usize) {
     let mut state = State::FRESH;
     let mut found = None;
@@ -81,14 +119,14 @@ fn frame_heard(out: &mut Vec<u8>, recording: &[u8], k: usize) {
     }
     match found {
         Some(heard) => {
-            say(out, [usize::from(heard.reading.number)]);
+            say_correction(out, heard.reading.correction);
             match heard.values {
                 Ok(values) => told(out, 0, None, Some(&values), &state),
                 Err(refusal) => told(out, refusal.number.into(), None, None, &state),
             }
         }
         None => {
-            say(out, [0]);
+            say_correction(out, Correction::Clean);
             told(out, 0, Some(NOTHING), None, &state);
         }
     }
@@ -206,9 +244,9 @@ fn put(cases: &mut Vec<u8>, kind: u8, given: &[u8], n: usize) {
     cases.resize(start + CASE_LENGTH, 0);
 }
 
-/// The 56 bytes of a record.
-fn pairs(record: &Record) -> Vec<u8> {
-    record.fields.iter().flat_map(|n| n.to_le_bytes()).collect()
+/// The two bytes of each number.
+fn pairs(numbers: &[u16]) -> Vec<u8> {
+    numbers.iter().flat_map(|n| n.to_le_bytes()).collect()
 }
 
 /// A recording of a few frames.
@@ -280,7 +318,172 @@ fn frames_with_refused(cases: &mut Vec<u8>, g: &mut Generator) {
     }
 }
 
-/// The cases that the stored answers are for.
+/// A record with this order mark: LSP j at its highest is above LSP j+1 at its lowest.
+fn with_mark(g: &mut Generator, mark: usize) -> Record {
+    let mut record = g.record();
+    record.fields[..10].fill(0);
+    if mark > 0 {
+        record.fields[mark - 1] = (1 << WIDTHS[mark - 1]) - 1;
+    }
+    record
+}
+
+/// Frames for the C reader: each number without a mark and with the highest, a number of each kind with every
+/// other mark, and each number where hits set SP.
+fn readings_hit(cases: &mut Vec<u8>, g: &mut Generator) {
+    let mut read = |mark: usize, hits: &[usize]| {
+        let frame = frame::lay(&with_mark(g, mark));
+        put(cases, b'r', &cases::hit_at(frame, hits), RECORD_LENGTH);
+    };
+    for mark in [0, 9] {
+        for hits in ONE_HIT {
+            read(mark, hits);
+        }
+    }
+    let parity = [1, 2, 4, 8];
+    let data = [3, 5, 6, 7, 9, 10, 11, 12, 13, 14, 15];
+    for mark in 1..=8 {
+        for number in [0, parity[mark % 4], data[mark], data[mark + 2]] {
+            read(mark, ONE_HIT[number]);
+        }
+    }
+    for (number, hits) in SETTING_SP.into_iter().enumerate() {
+        read(number % 10, hits);
+    }
+}
+
+/// Each number heard, refused with SP 1 as sent, and refused with SP set by hits: four frames in a recording of two
+/// voice blocks; and of the last recording frame 0 and one past the last.
+fn frames_hit(cases: &mut Vec<u8>, g: &mut Generator) {
+    let mut frames = Vec::new();
+    for (number, hits) in (0..).zip(ONE_HIT) {
+        for refused in [false, true] {
+            let sy = (number + u16::from(refused)) % 2;
+            frames.push(cases::hit_at(with_sy(g, sy, refused), hits));
+        }
+    }
+    for hits in SETTING_SP {
+        frames.push(cases::hit_at(with_sy(g, 0, false), hits));
+    }
+    let last = frames.len() / 4 - 1;
+    for (n, four) in frames.chunks(4).enumerate() {
+        let recording = cases::sound(7, 1, &[&four[..1 + n % 3], &four[1 + n % 3..]]);
+        for k in 1..=4 {
+            put(cases, b'k', &recording, k);
+        }
+        if n == last {
+            put(cases, b'k', &recording, 0);
+            put(cases, b'k', &recording, 5);
+        }
+    }
+}
+
+/// Steps over a frame with each number, heard and refused with 6, and over some with SP set by hits; and over a clean
+/// one, one with a parity hit and one with a data hit from every kind of state.
+fn steps_over_hits(cases: &mut Vec<u8>, g: &mut Generator) {
+    let within = 256 * FRAME_LENGTH;
+    for (number, hits) in ONE_HIT.into_iter().enumerate() {
+        for refused in [false, true] {
+            let sent = with_sy(g, (number / 2 % 2) as u16, refused);
+            let times = 1 + (number + usize::from(refused)) % 5;
+            let frame = cases::hit_at(sent, hits);
+            put(cases, b'p', &frame, within + 8192 * times);
+        }
+    }
+    for number in [0, 1, 14, 15] {
+        let frame = cases::hit_at(with_sy(g, 1, false), SETTING_SP[number]);
+        put(cases, b'p', &frame, within + 8192 * 4);
+    }
+    for (sy, refused) in KINDS {
+        let frames = [0, 8, 11].map(|n| cases::hit_at(with_sy(g, sy, refused), ONE_HIT[n]));
+        let blocks: Vec<&[Frame]> = frames.chunks(1).collect();
+        let recording = cases::sound(7, 1, &blocks);
+        for header in [14, 38, 62] {
+            for times in [1, 2, 3, 4, 5] {
+                put(cases, b'p', &recording, header + 8192 * times);
+            }
+        }
+        // No step is made over the data hit.
+        for times in [0, 6, 7] {
+            put(cases, b'p', &recording, 62 + 8192 * times);
+        }
+    }
+}
+
+/// The eleven guarded data bits: field and bit.
+#[rustfmt::skip]
+const DATA_BITS: [(usize, usize); 11] = [
+    (11, 5), (11, 6), (11, 7), (12, 4), (16, 4), (19, 5), (19, 6), (19, 7), (20, 4), (24, 4), (27, 0),
+];
+
+/// What numbers mean, and which data hits have one: the eleven, their neighbours, the parity bits, and far ones.
+fn corrections(cases: &mut Vec<u8>) {
+    let mut all: BTreeSet<usize> = (0..=16).chain([255, 65_535]).collect();
+    let mut name = |field: usize, bit: usize| all.insert(field + 256 * bit);
+    for (field, bit) in DATA_BITS {
+        for field in [field - 1, field, field + 1] {
+            name(field, bit);
+        }
+        name(field, bit + 1);
+        name(field, bit.saturating_sub(1));
+    }
+    // The same in the lower bits of the field or of the bit, and the two the other way round.
+    for (field, bit) in [(11, 5), (20, 4), (27, 0)] {
+        for far in [16, 32, 64, 128] {
+            name(field, bit + far);
+        }
+        name(field + 32, bit);
+        name(field + 128, bit);
+        name(bit, field);
+    }
+    for bit in 0..4 {
+        name(0, bit);
+        name(28, bit);
+    }
+    for field in [0, 11, 27, 28, 255] {
+        for bit in [8, 15, 16, 255] {
+            name(field, bit);
+        }
+    }
+    for n in all {
+        put(cases, b'c', &[], n);
+    }
+}
+
+/// Numbers that are mixed, all ones and all zeros after data hits, within the 29 numbers and their sixteen bits and
+/// beyond; each of the eleven; and where fewer numbers are given.
+fn inverted(cases: &mut Vec<u8>, g: &mut Generator) {
+    let mut mixed = || std::array::from_fn::<u16, { FIELDS + 1 }, _>(|_| g.next() as u16);
+    for field in [0, 1, 11, 27, 28, 29, 255] {
+        for bit in [0, 5, 15, 16, 255] {
+            put(cases, b'm', &pairs(&mixed()), field + 256 * bit);
+        }
+    }
+    for same in [65_535, 0] {
+        for field in [0, 11, 28, 29] {
+            for bit in [0, 15, 16] {
+                put(cases, b'm', &pairs(&[same; FIELDS + 1]), field + 256 * bit);
+            }
+        }
+    }
+    for (field, bit) in DATA_BITS {
+        put(cases, b'm', &pairs(&mixed()), field + 256 * bit);
+    }
+    for count in [0, 1, 11, 12, 27, 28] {
+        for (field, bit) in [(0, 0), (11, 15), (28, 5)] {
+            put(cases, b'm', &pairs(&mixed()[..count]), field + 256 * bit);
+        }
+    }
+}
+
+/// The cases that the stored answers are for: every fifth of all, so that a run of them is short.
+pub fn stored() -> Vec<u8> {
+    let all = cases();
+    let cases = all.chunks_exact(CASE_LENGTH).step_by(5);
+    cases.flatten().copied().collect()
+}
+
+/// All cases.
 pub fn cases() -> Vec<u8> {
     let mut cases = Vec::new();
     let mut g = Generator::new(1016);
@@ -310,14 +513,14 @@ pub fn cases() -> Vec<u8> {
         put(&mut cases, b'r', &g.bytes(17), long);
     }
     let write = |cases: &mut Vec<u8>, record: &Record| {
-        put(cases, b'w', &pairs(record), FRAME_LENGTH);
+        put(cases, b'w', &pairs(&record.fields), FRAME_LENGTH);
     };
     write(&mut cases, &Record::ZERO);
-    for field in 0..28 {
+    for (field, width) in WIDTHS.into_iter().enumerate() {
         let mut record = Record::ZERO;
         record.fields[field] = 1;
         write(&mut cases, &record);
-        record.fields[field] = 1 << crate::tables::WIDTHS[field];
+        record.fields[field] = 1 << width;
         write(&mut cases, &record);
         record.fields[26] = 1;
         write(&mut cases, &record);
@@ -336,8 +539,8 @@ pub fn cases() -> Vec<u8> {
         put(&mut cases, b'w', &g.bytes(length), FRAME_LENGTH);
     }
     for long in [0, 17, 19, 56, 60] {
-        put(&mut cases, b'w', &pairs(&g.record()), long);
-        put(&mut cases, b'w', &pairs(&g.any_record()), long);
+        put(&mut cases, b'w', &pairs(&g.record().fields), long);
+        put(&mut cases, b'w', &pairs(&g.any_record().fields), long);
     }
     for frames in 1..=4 {
         for _ in 0..3 {
@@ -387,13 +590,17 @@ pub fn cases() -> Vec<u8> {
     }
     steps(&mut cases, &mut g);
     frames_with_refused(&mut cases, &mut g);
+    readings_hit(&mut cases, &mut g);
+    frames_hit(&mut cases, &mut g);
+    steps_over_hits(&mut cases, &mut g);
+    corrections(&mut cases);
+    inverted(&mut cases, &mut g);
     cases
 }
 
 #[cfg(test)]
 mod tests {
     use super::*;
-    use std::collections::BTreeSet;
 
     fn lines(kind: u8, given: &[u8], n: usize) -> String {
         let mut cases = Vec::new();
@@ -425,19 +632,19 @@ mod tests {
         let zeros = "0 ".repeat(10);
         assert_eq!(
             lines(b'k', &sample, 1),
-            format!("0 0 0 656 532 656 532 1 {HZ}0 \n")
+            format!("0 0 0 0 656 532 656 532 1 {HZ}0 \n")
         );
         assert_eq!(
             lines(b'k', &sample, 2),
-            format!("15 0 0 656 532 656 532 1 {HZ}1 \n")
+            format!("15 2 27 0 0 0 656 532 656 532 1 {HZ}1 \n")
         );
         assert_eq!(
             lines(b'k', &sample, 3),
-            format!("0 0 65536 0 0 0 0 0 1 {HZ}1 \n")
+            format!("0 0 0 65536 0 0 0 0 0 1 {HZ}1 \n")
         );
         assert_eq!(
             lines(b'k', &sample, 0),
-            format!("0 0 65536 0 0 0 0 0 {zeros}\n")
+            format!("0 0 0 65536 0 0 0 0 0 {zeros}\n")
         );
         assert_eq!(
             lines(b'v', &[0; 18], 1 + 8 * 8),
@@ -465,15 +672,15 @@ mod tests {
         let zeros = "0 ".repeat(10);
         for sy in [0, 1] {
             let first = cases::sound(1, 1, &[&[zero_but_for(sy, true)]]);
-            let expected = format!("0 6 0 0 0 0 0 {zeros}{sy} \n");
+            let expected = format!("0 0 6 0 0 0 0 0 {zeros}{sy} \n");
             assert_eq!(lines(b'k', &first, 1), expected);
-            let expected = format!("0 0 65536 0 0 0 0 0 {zeros}{sy} \n");
+            let expected = format!("0 0 0 65536 0 0 0 0 0 {zeros}{sy} \n");
             assert_eq!(lines(b'k', &first, 2), expected);
             let last = [zero_but_for(0, false), zero_but_for(sy, true)];
             let last = cases::sound(1, 1, &[&last]);
-            let expected = format!("0 6 0 0 0 0 0 1 {HZ}{sy} \n");
+            let expected = format!("0 0 6 0 0 0 0 0 1 {HZ}{sy} \n");
             assert_eq!(lines(b'k', &last, 2), expected);
-            let expected = format!("0 0 65536 0 0 0 0 0 1 {HZ}{sy} \n");
+            let expected = format!("0 0 0 65536 0 0 0 0 0 1 {HZ}{sy} \n");
             assert_eq!(lines(b'k', &last, 3), expected);
         }
     }
@@ -554,6 +761,262 @@ mod tests {
         assert_eq!(said, format!("38 18 11002 3 5 1 {HZ}0 \n"));
         let said = lines(b'p', &sample, 38 + 256 * 18 + 8192 * 4);
         assert_eq!(said, format!("56 0 44005 4 6 1 {HZ}1 \n"));
+    }
+
+    /// What correction numbers 0 to 15 mean, as it is printed.
+    const MEANT: [&str; 16] = [
+        "0 0 ",
+        "1 1 ",
+        "2 1 ",
+        "3 2 11 5 ",
+        "4 1 ",
+        "5 2 11 6 ",
+        "6 2 11 7 ",
+        "7 2 12 4 ",
+        "8 1 ",
+        "9 2 16 4 ",
+        "10 2 19 5 ",
+        "11 2 19 6 ",
+        "12 2 19 7 ",
+        "13 2 20 4 ",
+        "14 2 24 4 ",
+        "15 2 27 0 ",
+    ];
+
+    /// The numbers that are repairs.
+    const REPAIRS: [usize; 11] = [3, 5, 6, 7, 9, 10, 11, 12, 13, 14, 15];
+
+    #[test]
+    fn the_reader_tells_its_result_and_the_record() {
+        let rest = "170 ".repeat(4);
+        for (places, result) in [
+            (&[][..], "0           "),
+            (&[21], "257         "),
+            (&[134], "264         "),
+            (&[11], "515         "),
+            (&[104], "527         "),
+        ] {
+            let mut frame = [0; FRAME_LENGTH];
+            for &place in places {
+                frame::flip(&mut frame, place);
+            }
+            let zeros = "0 ".repeat(56);
+            assert_eq!(lines(b'r', &frame, 56), format!("{result}{zeros}{rest}\n"));
+        }
+        // PD(1)-5 and PD(1)-6: PD(1) is 224; and LSP 9 at its highest, mark 9.
+        let mut frame = [0; FRAME_LENGTH];
+        for place in [11, 61, 39, 82, 130] {
+            frame::flip(&mut frame, place);
+        }
+        let (before, between, after) = ("0 ".repeat(16), "0 ".repeat(3), "0 ".repeat(35));
+        assert_eq!(
+            lines(b'r', &frame, 56),
+            format!("662         {before}7 {between}224 {after}{rest}\n")
+        );
+    }
+
+    #[test]
+    fn a_frame_tells_its_correction_heard_and_refused() {
+        let zeros = "0 ".repeat(10);
+        for (number, meant) in MEANT.into_iter().enumerate() {
+            let hit = |refused| cases::hit_at(zero_but_for(1, refused), ONE_HIT[number]);
+            let heard = cases::sound(1, 1, &[&[hit(false)]]);
+            let expected = format!("{meant}0 0 656 532 656 532 1 {HZ}1 \n");
+            assert_eq!(lines(b'k', &heard, 1), expected);
+            let refused = cases::sound(1, 1, &[&[hit(true)]]);
+            let expected = format!("{meant}6 0 0 0 0 0 {zeros}1 \n");
+            assert_eq!(lines(b'k', &refused, 1), expected);
+            let refused = cases::hit_at(zero_but_for(1, false), SETTING_SP[number]);
+            let refused = cases::sound(1, 1, &[&[refused]]);
+            assert_eq!(lines(b'k', &refused, 1), expected);
+        }
+    }
+
+    #[test]
+    fn a_step_counts_data_hits_alone_as_repaired() {
+        for (number, hits) in ONE_HIT.into_iter().enumerate() {
+            let repaired = 3 + usize::from(REPAIRS.contains(&number));
+            for times in [1, 2, 3, 4, 5] {
+                let frames = 11_001 * times + 1;
+                let breaks = if times == 3 { 6 } else { 5 };
+                for refused in [false, true] {
+                    let frame = cases::hit_at(zero_but_for(0, refused), hits);
+                    let said = lines(b'p', &frame, 256 * 18 + 8192 * times);
+                    let counts = format!("18 0 {frames} {repaired} {breaks} ");
+                    assert!(said.starts_with(&counts), "{number} {times}: {said}");
+                }
+            }
+        }
+    }
+
+    #[test]
+    fn numbers_mean_corrections_and_data_hits_have_numbers() {
+        for (n, meant) in MEANT.into_iter().enumerate() {
+            assert_eq!(lines(b'c', &[], n), format!("{meant}0 \n"));
+        }
+        for (number, field, bit) in [
+            (3, 11, 5),
+            (5, 11, 6),
+            (6, 11, 7),
+            (7, 12, 4),
+            (9, 16, 4),
+            (10, 19, 5),
+            (11, 19, 6),
+            (12, 19, 7),
+            (13, 20, 4),
+            (14, 24, 4),
+            (15, 27, 0),
+        ] {
+            let said = lines(b'c', &[], field + 256 * bit);
+            assert_eq!(said, format!("0 0 {number} \n"));
+        }
+        for (field, bit) in [
+            (16, 0),
+            (255, 0),
+            (255, 255),
+            (0, 1),
+            (0, 2),
+            (0, 3),
+            (11, 4),
+            (11, 8),
+            (11, 21),
+            (10, 5),
+            (12, 5),
+            (15, 4),
+            (26, 0),
+            (27, 1),
+            (27, 16),
+            (28, 0),
+            (5, 11),
+        ] {
+            let said = lines(b'c', &[], field + 256 * bit);
+            assert_eq!(said, "0 0 0 \n", "{field} {bit}");
+        }
+    }
+
+    #[test]
+    fn a_data_hit_inverts_one_bit_of_one_number() {
+        let numbers: [u16; 29] = std::array::from_fn(|at| 100 * at as u16);
+        let text = |numbers: &[u16]| {
+            let words: String = numbers.iter().map(|n| format!("{n} ")).collect();
+            words + "\n"
+        };
+        for (field, bit, before, after) in [
+            (0, 0, 0, 1),
+            (0, 15, 0, 32_768),
+            (1, 5, 100, 68),
+            (11, 5, 1_100, 1_132),
+            (27, 0, 2_700, 2_701),
+            (28, 0, 2_800, 2_801),
+            (28, 15, 2_800, 35_568),
+        ] {
+            let mut expected = numbers;
+            assert_eq!(expected[field], before);
+            expected[field] = after;
+            let said = lines(b'm', &pairs(&numbers), field + 256 * bit);
+            assert_eq!(said, text(&expected), "{field} {bit}");
+        }
+        for (field, bit) in [(0, 16), (28, 16), (11, 255), (29, 0), (255, 5), (255, 255)] {
+            let said = lines(b'm', &pairs(&numbers), field + 256 * bit);
+            assert_eq!(said, text(&numbers), "{field} {bit}");
+        }
+        // What is not given is 0, and is inverted as well.
+        let zeros = "0 ".repeat(28);
+        assert_eq!(lines(b'm', &[], 0), format!("1 {zeros}\n"));
+        assert_eq!(lines(b'm', &[], 28 + 256 * 15), format!("{zeros}32768 \n"));
+        assert_eq!(lines(b'm', &[1, 2], 256), format!("515 {zeros}\n"));
+    }
+
+    #[test]
+    fn every_correction_is_among_the_cases() {
+        let cases = cases();
+        let (mut results, mut heard) = (BTreeSet::new(), BTreeSet::new());
+        let (mut steps, mut numbers) = (BTreeSet::new(), BTreeSet::new());
+        let mut inverted = BTreeSet::new();
+        let case = |number: u8| match number {
+            0 => 'c',
+            1 | 2 | 4 | 8 => 'p',
+            _ => 'd',
+        };
+        for (kind, given, n) in parts(&cases) {
+            match kind {
+                b'r' => {
+                    let result = frame::read_c(given, &mut vec![0; n]);
+                    results.insert(result);
+                }
+                b'k' => {
+                    let sound = recording::read(given).ok();
+                    let frame = sound.and_then(|sound| sound.heard().nth(n.checked_sub(1)?));
+                    if let Some(frame) = frame {
+                        let number = frame.reading.correction.number();
+                        heard.insert((number, frame.values.is_err()));
+                    }
+                }
+                b'p' => {
+                    if let Some((first, _)) = find(given, n % 256, n / 256 % 32) {
+                        let reading = frame::read(&given[first..][..FRAME_LENGTH]).unwrap();
+                        let number = reading.correction.number();
+                        steps.insert((case(number), reading.record.sp(), n / 8192));
+                    }
+                }
+                b'c' => {
+                    assert!(given.is_empty());
+                    assert!(numbers.insert(n), "{n} twice");
+                }
+                b'm' => {
+                    inverted.insert((given.len(), n % 256, n / 256));
+                }
+                _ => {}
+            }
+        }
+        for number in 0..16 {
+            let hit = match case(number) {
+                'c' => 0,
+                'p' => 256,
+                _ => 512,
+            };
+            for mark in [0, 9] {
+                assert!(results.contains(&(hit + 16 * mark + i32::from(number))));
+            }
+            for refused in [false, true] {
+                assert!(heard.contains(&(number, refused)), "{number} {refused}");
+            }
+        }
+        for mark in 0..=9 {
+            for hit in [0, 256, 512] {
+                let shown = results.iter().any(|result| result >> 4 == mark + hit / 16);
+                assert!(shown, "{mark} {hit}");
+            }
+        }
+        for letter in ['c', 'p', 'd'] {
+            for sp in [0, 1] {
+                assert!((1..=5).all(|times| steps.contains(&(letter, sp, times))));
+            }
+        }
+        for times in [0, 6, 7] {
+            assert!(steps.contains(&('d', 0, times)), "{times}");
+        }
+        for n in (0..=16).chain([27, 28, 255, 65_535]) {
+            assert!(numbers.contains(&n), "{n}");
+        }
+        for (field, bit) in DATA_BITS {
+            for (field, bit) in [
+                (field, bit),
+                (field - 1, bit),
+                (field + 1, bit),
+                (field, bit + 1),
+            ] {
+                assert!(numbers.contains(&(field + 256 * bit)), "{field} {bit}");
+            }
+        }
+        for field in [0, 1, 11, 27, 28, 29, 255] {
+            for bit in [0, 5, 15, 16, 255] {
+                assert!(inverted.contains(&(58, field, bit)), "{field} {bit}");
+            }
+        }
+        for given in [0, 2, 22, 56] {
+            assert!(inverted.contains(&(given, 28, 5)), "{given}");
+        }
     }
 
     /// The kind, what is given and n of each case.

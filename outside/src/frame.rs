@@ -3,7 +3,7 @@
 
 use crate::lsp;
 use crate::refusal::Refusal;
-use crate::tables::{FIELDS, GUARDED, PARITY, PLACES, WIDTHS};
+use crate::tables::{Place, FIELDS, GUARDED, PARITY, PLACES, WIDTHS};
 
 /// The bytes of a frame.
 pub const FRAME_LENGTH: usize = 18;
@@ -77,12 +77,54 @@ impl Record {
     }
 }
 
+/// What the parity of a frame shows, and what was done about it.
+#[derive(Clone, Copy, Debug, PartialEq, Eq)]
+pub enum Correction {
+    /// Computed and received parity are the same.
+    Clean,
+    /// A parity bit is hit, the one with this correction number: 1, 2, 4 or 8. No index changes.
+    Parity(u8),
+    /// A data bit was inverted: this bit, 0 being the lowest, of this field, counted from 1.
+    Data { field: u8, bit: u8 },
+}
+
+impl Correction {
+    /// What a correction number means; one over 15 is clean.
+    pub fn of(number: usize) -> Correction {
+        let guarded = number.checked_sub(1).and_then(|at| GUARDED.get(at));
+        match guarded.map(|place| PLACES[place - 1]) {
+            None => Correction::Clean,
+            Some(Place { field: PARITY, .. }) => Correction::Parity(number as u8),
+            Some(Place { field, bit }) => Correction::Data {
+                field: field as u8 + 1,
+                bit: bit as u8,
+            },
+        }
+    }
+
+    /// The correction number, 0 to 15; 0 also of a data bit that is not guarded.
+    pub fn number(self) -> u8 {
+        match self {
+            Correction::Clean => 0,
+            Correction::Parity(number) => number,
+            Correction::Data { .. } => {
+                let means = |&number: &u8| Correction::of(number.into()) == self;
+                (1..=15).find(means).unwrap_or(0)
+            }
+        }
+    }
+
+    /// Whether a data bit was inverted.
+    pub fn is_repair(self) -> bool {
+        matches!(self, Correction::Data { .. })
+    }
+}
+
 /// What a frame reads as.
 #[derive(Clone, Copy, Debug, PartialEq, Eq)]
 pub struct Reading {
     pub record: Record,
-    /// The correction number; 0 if the parity was clean.
-    pub number: u8,
+    pub correction: Correction,
     /// The order mark; 0 if no LSP falls.
     pub mark: u8,
 }
@@ -102,24 +144,16 @@ pub fn read_frame(frame: &[u8; FRAME_LENGTH]) -> Reading {
         }
     }
 
-    let mut number = 0;
-    for (c, place) in (1..).zip(GUARDED) {
-        if is_set(frame, place) {
-            number ^= c;
-        }
-    }
-    if number != 0 {
-        // A wrong parity bit is put right as well; it is in no field.
-        let wrong = PLACES[GUARDED[usize::from(number) - 1] - 1];
-        bits[wrong.field] ^= 1 << wrong.bit;
-    }
-
-    let record = Record {
+    let correction = Correction::of(parity(frame));
+    let mut record = Record {
         fields: *bits.first_chunk().expect("there are 28 fields"),
     };
+    if let Correction::Data { field, bit } = correction {
+        record.fields[usize::from(field) - 1] ^= 1 << bit;
+    }
     Reading {
         record,
-        number,
+        correction,
         mark: record.order_mark(),
     }
 }
@@ -147,18 +181,21 @@ pub fn lay(record: &Record) -> [u8; FRAME_LENGTH] {
         }
     }
     // With the parity bits still 0 the correction number is the parity itself.
-    let mut parity: usize = 0;
-    for (c, place) in (1..).zip(GUARDED) {
-        if is_set(&frame, place) {
-            parity ^= c;
-        }
-    }
+    let parity = parity(&frame);
     for i in 0..4 {
         if parity >> i & 1 == 1 {
             flip(&mut frame, GUARDED[(1 << i) - 1]);
         }
     }
     frame
+}
+
+/// The correction number: computed parity against received.
+fn parity(frame: &[u8; FRAME_LENGTH]) -> usize {
+    let guarded = (1..)
+        .zip(GUARDED)
+        .filter(|&(_, place)| is_set(frame, place));
+    guarded.fold(0, |number, (c, _)| number ^ c)
 }
 
 /// Whether a place, counted from 1, is set.
@@ -171,8 +208,9 @@ pub fn flip(frame: &mut [u8; FRAME_LENGTH], place: usize) {
     frame[(place - 1) / 8] ^= 0x80 >> ((place - 1) % 8);
 }
 
-/// The reader for C: 16 times the order mark plus the correction number, or minus a refusal's
-/// number. Writes the record only if it is not refused.
+/// The reader for C: 16 times the order mark plus the correction number, and 256 more for a parity
+/// hit or 512 for a data hit; or minus a refusal's number. Writes the record only if it is not
+/// refused.
 pub fn read_c(frame: &[u8], record: &mut [u8]) -> i32 {
     if record.len() != RECORD_LENGTH {
         return -1;
@@ -182,7 +220,12 @@ pub fn read_c(frame: &[u8], record: &mut [u8]) -> i32 {
             for (pair, index) in record.chunks_exact_mut(2).zip(reading.record.fields) {
                 pair.copy_from_slice(&index.to_le_bytes());
             }
-            16 * i32::from(reading.mark) + i32::from(reading.number)
+            let hit = match reading.correction {
+                Correction::Clean => 0,
+                Correction::Parity(_) => 256,
+                Correction::Data { .. } => 512,
+            };
+            hit + 16 * i32::from(reading.mark) + i32::from(reading.correction.number())
         }
         Err(refusal) => -i32::from(refusal.number),
     }
@@ -243,8 +286,62 @@ mod tests {
                 expected.fields[place.field] = 1 << place.bit;
             }
             assert_eq!(reading.record, expected, "place {p}");
-            assert_eq!(usize::from(reading.number), number, "place {p}");
+            assert_eq!(
+                usize::from(reading.correction.number()),
+                number,
+                "place {p}"
+            );
         }
+    }
+
+    const fn data(field: u8, bit: u8) -> Correction {
+        Correction::Data { field, bit }
+    }
+
+    /// What numbers 0 to 15 mean, from the list of guarded places.
+    const MEANT: [Correction; 16] = [
+        Correction::Clean,
+        Correction::Parity(1),
+        Correction::Parity(2),
+        data(11, 5), // PD(1)-5
+        Correction::Parity(4),
+        data(11, 6), // PD(1)-6
+        data(11, 7), // PD(1)-7
+        data(12, 4), // PG(1)-4
+        Correction::Parity(8),
+        data(16, 4), // PG(2)-4
+        data(19, 5), // PD(3)-5
+        data(19, 6), // PD(3)-6
+        data(19, 7), // PD(3)-7
+        data(20, 4), // PG(3)-4
+        data(24, 4), // PG(4)-4
+        data(27, 0), // SP
+    ];
+
+    #[test]
+    fn each_number_is_one_case_and_each_case_one_number() {
+        for (number, meant) in MEANT.into_iter().enumerate() {
+            assert_eq!(Correction::of(number), meant);
+            assert_eq!(usize::from(meant.number()), number);
+            assert_eq!(meant.is_repair(), ![0, 1, 2, 4, 8].contains(&number));
+        }
+        for number in (16..600).chain([65_535, 65_536, usize::MAX]) {
+            assert_eq!(Correction::of(number), Correction::Clean);
+        }
+    }
+
+    #[test]
+    fn a_data_bit_that_is_not_guarded_has_number_0() {
+        let mut guarded = 0;
+        for field in 0..=255 {
+            for bit in 0..=255 {
+                let number = data(field, bit).number();
+                let meant = MEANT.iter().position(|&meant| meant == data(field, bit));
+                assert_eq!(meant.unwrap_or(0), usize::from(number), "{field} {bit}");
+                guarded += usize::from(number != 0);
+            }
+        }
+        assert_eq!(guarded, 11);
     }
 
     #[test]
@@ -263,7 +360,8 @@ mod tests {
                 .map(|n| GUARDED[n - 1])
                 .collect();
             let reading = read_frame(&only(&places));
-            assert_eq!(reading.number, result);
+            assert_eq!(reading.correction, MEANT[usize::from(result)]);
+            assert_eq!(reading.correction.number(), result);
             let mut expected = Record::ZERO;
             for n in (1..=15usize).filter(|n| n.count_ones() > 1) {
                 let place = PLACES[GUARDED[n - 1] - 1];
@@ -309,7 +407,7 @@ mod tests {
             read_frame(&frame),
             Reading {
                 record,
-                number: 0,
+                correction: Correction::Clean,
                 mark: 0
             }
         );
@@ -338,10 +436,12 @@ mod tests {
             let reading = read(&frame).unwrap();
             let mut lent = [0xEE; RECORD_LENGTH];
             let result = read_c(&frame, &mut lent);
-            assert_eq!(
-                result,
-                16 * i32::from(reading.mark) + i32::from(reading.number)
-            );
+            let of_correction = match reading.correction {
+                Correction::Clean => 0,
+                Correction::Parity(number) => 256 + i32::from(number),
+                correction => 512 + i32::from(correction.number()),
+            };
+            assert_eq!(result, 16 * i32::from(reading.mark) + of_correction);
             for (at, index) in reading.record.fields.into_iter().enumerate() {
                 assert_eq!(
                     u16::from(lent[2 * at]) + 256 * u16::from(lent[2 * at + 1]),
@@ -366,6 +466,61 @@ mod tests {
                     assert_eq!(lent, [0xEE; FRAME_LENGTH]);
                 }
             }
+        }
+    }
+
+    /// What the reader for C gives for numbers 0 to 15 with mark 0.
+    const RESULTS: [i32; 16] = [
+        0, 257, 258, 515, 260, 517, 518, 519, 264, 521, 522, 523, 524, 525, 526, 527,
+    ];
+
+    #[test]
+    fn c_tells_a_parity_hit_from_a_data_hit_with_every_mark() {
+        for mark in 0..=9 {
+            let mut record = Record::ZERO;
+            if mark > 0 {
+                // The highest value of LSP j is above the lowest of the next one.
+                record.fields[mark - 1] = (1 << WIDTHS[mark - 1]) - 1;
+            }
+            for sp in [0, 1] {
+                record.fields[26] = sp;
+                for (number, result) in RESULTS.into_iter().enumerate() {
+                    let mut frame = lay(&record);
+                    if number > 0 {
+                        flip(&mut frame, GUARDED[number - 1]);
+                    }
+                    let mut lent = [0xEE; RECORD_LENGTH];
+                    let expected = result + 16 * mark as i32;
+                    assert_eq!(read_c(&frame, &mut lent), expected, "{mark} {number}");
+                    let given: Vec<u8> = record
+                        .fields
+                        .iter()
+                        .flat_map(|index| index.to_le_bytes())
+                        .collect();
+                    assert_eq!(lent[..], given);
+                }
+            }
+        }
+    }
+
+    #[test]
+    fn results_of_the_reader_for_c() {
+        // LSP 4 of 1,970 Hz above LSP 5 of 1,000, and LSP 9 of 3,550 above LSP 10 of 3,190.
+        for (field, index, number, expected) in [
+            (4, 15, 0, 64),
+            (4, 15, 1, 256 + 64 + 1),
+            (4, 15, 3, 512 + 64 + 3),
+            (9, 7, 0, 144),
+            (9, 7, 8, 256 + 144 + 8),
+            (9, 7, 15, 512 + 144 + 15),
+        ] {
+            let mut record = Record::ZERO;
+            record.fields[field - 1] = index;
+            let mut frame = lay(&record);
+            if number > 0 {
+                flip(&mut frame, GUARDED[number - 1]);
+            }
+            assert_eq!(read_c(&frame, &mut [0; RECORD_LENGTH]), expected);
         }
     }
 

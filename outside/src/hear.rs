@@ -2,6 +2,7 @@
 //! under the running state and the state after, the voice blocks and the counts. The layout is set
 //! out in CASES.md.
 
+use crate::frame::Correction;
 use crate::listing;
 use crate::recording::{self, Counts, Heard};
 use crate::text::{number, numbers};
@@ -34,7 +35,11 @@ fn frame(out: &mut Vec<u8>, k: u32, heard: &Heard) {
     number(out, k.into());
     numbers(out, heard.reading.record.fields.map(i64::from));
     out.extend_from_slice(b" number");
-    numbers(out, [heard.reading.number.into()]);
+    let correction = heard.reading.correction;
+    listing::correction(out, correction);
+    if let Correction::Data { field, bit } = correction {
+        numbers(out, [field.into(), bit.into()]);
+    }
     out.extend_from_slice(b" mark");
     numbers(out, [heard.reading.mark.into()]);
     match &heard.values {
@@ -88,7 +93,10 @@ mod tests {
         second.fields[27] = 1;
         let mut frames = [frame::lay(&refused); 4];
         (frames[1], frames[2]) = ([0; 18], frame::lay(&second));
-        frame::flip(&mut frames[3], 144);
+        // HP-0, PD(3)-5, and SP and SY.
+        for (k, place) in [(1, 21), (2, 143), (3, 104), (3, 144)] {
+            frame::flip(&mut frames[k], place);
+        }
         let recording = cases::sound(1, 1, &[&frames[..1], &frames[1..]]);
         let zeros = |n| " 0".repeat(n);
         let rest = [210, 420, 620, 1000, 1470, 1800, 2225, 2760, 3190];
@@ -98,18 +106,21 @@ mod tests {
             " gains -1330 -993 -1330 -993 -1330 -993 -1330 -993 delays 656 532 656 532 averages";
         let expected = [
             "unit 1 recording 1 frames 4\n".to_string(),
-            format!("frame 1{} 1 0 number 0 mark 0 refused 6 sy 0\n", zeros(26)),
-            format!("frame 2{} number 0 mark 0{values}", zeros(28)),
+            format!("frame 1{} 1 0", zeros(26)),
+            " number 0 c mark 0 refused 6 sy 0\n".to_string(),
+            format!("frame 2{} number 1 p mark 0{values}", zeros(28)),
             format!(" 800{eighths}").repeat(4),
             format!(" state 100{hz} sy 0\n"),
-            format!("frame 3 1{} 1 number 0 mark 0{values}", zeros(26)),
+            format!("frame 3 1{} 1", zeros(26)),
+            format!(" number 10 d 19 5 mark 0{values}"),
             [870, 1010, 1150, 1290]
                 .map(|average| format!(" {average}{eighths}"))
                 .concat(),
             format!(" state 170{hz} sy 1\n"),
-            format!("frame 4{} 1 1 number 0 mark 0 refused 6 sy 1\n", zeros(26)),
+            format!("frame 4{} 1 1", zeros(26)),
+            " number 15 d 27 0 mark 0 refused 6 sy 1\n".to_string(),
             "block 0 20 18\nblock 1 44 54\nblock 2 0 0\n".to_string(),
-            "repaired 0 breaks 2\n".to_string(),
+            "repaired 2 breaks 2\n".to_string(),
         ];
         assert_eq!(
             String::from_utf8(hear(&recording)).unwrap(),

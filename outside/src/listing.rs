@@ -2,6 +2,7 @@
 //! or the one line of its refusal.
 
 use crate::delays;
+use crate::frame::Correction;
 use crate::recording::{self, Counts, Recording, LONGEST};
 use crate::refusal::Refusal;
 use crate::text::{number, numbers};
@@ -19,7 +20,7 @@ pub fn list(recording: &[u8]) -> Vec<u8> {
     for reading in sound.readings() {
         counts.count(&reading);
         number(&mut out, counts.frames.into());
-        numbers(&mut out, [reading.number.into()]);
+        correction(&mut out, reading.correction);
         if reading.record.sp() != 0 {
             out.extend_from_slice(b" refused 6\n");
             continue;
@@ -42,6 +43,17 @@ pub fn head(out: &mut Vec<u8>, sound: &Recording) {
     out.extend_from_slice(b" frames ");
     number(out, sound.frames.into());
     out.push(b'\n');
+}
+
+/// A correction, after a space: its number, and `c` if it is clean, `p` for a parity hit, `d` for a
+/// data hit.
+pub fn correction(out: &mut Vec<u8>, correction: Correction) {
+    numbers(out, [correction.number().into()]);
+    out.extend_from_slice(match correction {
+        Correction::Clean => b" c",
+        Correction::Parity(_) => b" p",
+        Correction::Data { .. } => b" d",
+    });
 }
 
 /// The last line: repaired frames and sync breaks.

@@ -11,7 +11,7 @@ use std::path::{Path, PathBuf};
 use std::process::ExitCode;
 
 const USAGE: &str =
-    "usage: outside tables | sample | list | hear | salvage | lent | lent-case | sheet | sheet-cases | histories DIR N SEED | edges | recording SEED N | recordings DIR N SEED | cuts DIR | uploads DIR N SEED | leaves | leaf-cases [KIND MORE SEED] | windows DIR | exchange | exchange-cases";
+    "usage: outside tables | sample | list | hear | salvage | lent | lent-case | sheet | sheet-cases | histories DIR N SEED | edges | recording SEED N | recordings DIR N SEED | cuts DIR | uploads DIR N SEED | leaves | leaf-cases [KIND MORE SEED] | windows DIR | exchange | exchange-cases [all]";
 
 /// Recordings longer than this get no `.hear` file.
 const LONGEST_HEARD: usize = 20_000;
@@ -28,7 +28,8 @@ fn main() -> ExitCode {
             _ => return usage(),
         },
         ["exchange"] => all_input().and_then(|cases| print(&exchange::answers(&cases))),
-        ["exchange-cases"] => print(&exchange::cases()),
+        ["exchange-cases"] => print(&exchange::stored()),
+        ["exchange-cases", "all"] => print(&exchange::cases()),
         ["windows", folder] => windows(Path::new(folder)),
         ["sample"] => print(&cases::sample()),
         ["list"] => input().and_then(|recording| print(&listing::list(&recording))),

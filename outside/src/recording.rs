@@ -35,7 +35,7 @@ pub struct Answer {
     pub unit: u32,
     pub number: u32,
     pub frames: u32,
-    /// Frames whose correction number is not 0.
+    /// Frames of which a data bit was inverted.
     pub repaired: u32,
     /// Frames with the SY of the frame before, and a first one with SY 1.
     pub breaks: u32,
@@ -172,7 +172,7 @@ impl Counts {
     /// Counts the next frame in.
     pub fn count(&mut self, reading: &Reading) {
         self.frames += 1;
-        self.repaired += u32::from(reading.number != 0);
+        self.repaired += u32::from(reading.correction.is_repair());
         self.breaks += u32::from(self.state.is_break(reading.record.sy()));
         self.state = values::state_after(&reading.record, &self.state);
     }
@@ -266,15 +266,17 @@ mod tests {
         let mut refused = frame::Record::ZERO;
         refused.fields[26] = 1;
         let clean = frame::lay(&refused);
-        let mut repaired = clean;
-        frame::flip(&mut repaired, 21);
+        let [mut parity_hit, mut repaired] = [clean; 2];
+        frame::flip(&mut parity_hit, 21);
+        frame::flip(&mut repaired, 124);
         frame::flip(&mut repaired, 144);
         // Frame 1: SY 0. Frame 2: SY 0 and so a break. Frame 3: SY 1, no break, and repaired.
-        let recording = cases::sound(1, 2, &[&[clean, clean, repaired]]);
+        // Frame 4: SY 0, no break, and a parity hit.
+        let recording = cases::sound(1, 2, &[&[clean, clean, repaired, parity_hit]]);
         let expected = Answer {
             unit: 1,
             number: 2,
-            frames: 3,
+            frames: 4,
             repaired: 1,
             breaks: 1,
         };

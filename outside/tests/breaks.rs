@@ -22,7 +22,7 @@ fn breaks(bytes: &[u8]) -> u32 {
 #[test]
 fn the_edges_have_so_many_breaks() {
     let edges = cases::edges();
-    let counted = [
+    let counted: [_; 46] = [
         ("no frame lost", 0),
         ("no frame lost, one voice", 0),
         ("the first frame lost", 1),
@@ -70,8 +70,7 @@ fn the_edges_have_so_many_breaks() {
         ("last frame refused, a break", 1),
         ("one frame refused, SY 1", 1),
     ];
-    assert_eq!(edges.len(), 498 + counted.len());
-    for (edge, (name, count)) in edges[498..].iter().zip(counted) {
+    for (edge, (name, count)) in edges[498..544].iter().zip(counted) {
         assert_eq!(edge.name, name);
         assert_eq!(breaks(&edge.bytes), count, "{name}");
         assert!(edge.bytes.len() < 200, "{name}");
@@ -165,7 +164,7 @@ fn seen(bytes: &[u8]) -> Vec<Seen> {
                 sy: reading.record.fields[27],
                 refused: reading.record.fields[26] == 1,
                 first_of_block: at == 0,
-                repaired: reading.number != 0,
+                repaired: reading.correction.is_repair(),
                 falls: reading.mark != 0,
             });
         }
@@ -217,10 +216,14 @@ fn lsps_not_of_the_frame_before(bytes: &[u8]) -> usize {
         let words: Vec<&str> = line.split(' ').collect();
         let hz = |j: usize| u32::from(LSP[j][words[2 + j].parse::<usize>().unwrap()]);
         let present: Vec<u32> = (0..10).map(hz).collect();
-        if words[34] != "refused" {
-            let numbers = |part: &[&str]| part.iter().map(|n| n.parse().unwrap()).collect();
-            let heard: Vec<u32> = numbers(&words[49..89]);
-            let state: Vec<u32> = numbers(&words[90..100]);
+        let after = |word: &str, count: usize| -> Vec<u32> {
+            let at = words.iter().position(|&other| other == word).unwrap() + 1;
+            let numbers = words[at..at + count].iter();
+            numbers.map(|n| n.parse().unwrap()).collect()
+        };
+        if !words.contains(&"refused") {
+            let heard = after("averages", 40);
+            let state = after("state", 10);
             assert_eq!(heard, averages(last_heard.as_deref(), &present), "{line}");
             assert_eq!(state, present, "{line}");
             differ += usize::from(heard != averages(last.as_deref(), &present));
@@ -240,7 +243,7 @@ fn generated_recordings_tell_wrong_rules_apart() {
         Rule::LostAtBlocks,
     ];
     let mut told = [0; 4];
-    let (mut lsps, mut unbroken) = (0, 0);
+    let (mut lsps, mut unbroken, mut not_repaired) = (0, 0, 0);
     let first = cases::edges().len() as u64;
     for n in (first..first + 300).filter(|n| n % 2 == 1) {
         let bytes = cases::recording(1, n);
@@ -251,10 +254,13 @@ fn generated_recordings_tell_wrong_rules_apart() {
             *told += usize::from(count(&breaks_by(rule, &frames)) != right);
         }
         unbroken += usize::from(right == 0);
+        let repaired = frames.iter().filter(|frame| frame.repaired).count();
+        not_repaired += usize::from(right != repaired);
         lsps += usize::from(lsps_not_of_the_frame_before(&bytes) > 0);
     }
     assert!(told.iter().all(|&n| n >= 20), "{wrong:?} {told:?}");
     assert!(lsps >= 20 && unbroken >= 20, "{lsps} {unbroken}");
+    assert!(not_repaired >= 100, "{not_repaired}");
 }
 
 /// All that the recording that the hearing program is stored with has, each with whether it is there.
@@ -322,8 +328,8 @@ fn wanted(frames: &[Seen]) -> Vec<(&'static str, bool)> {
 /// or `o` for 0 and `i` for 1 where it is refused.
 const STORED: (u64, u64, &str) = (
     1,
-    1617,
-    "i 0i 0i 01 01 o1 o1 o 0 ooi 01 0 1 1 i 01 o i0 0o 10 o 1i o1 0 io 10 1 01 1i o1 0",
+    33995,
+    "101 01 0 i111 1o i11o0 0i0 i1 io10i 00010io 1 110o0 00 i01 101 0io1 01 o10",
 );
 
 #[test]
@@ -344,15 +350,15 @@ fn the_stored_recording_has_all_that_is_wanted() {
         });
     }
     assert_eq!(text, voice);
-    assert_eq!(breaks(&bytes), 12);
+    assert_eq!(breaks(&bytes), 20);
     for (name, holds) in wanted(&frames) {
         assert!(holds, "{name}");
     }
     for (rule, wrong) in [
-        (Rule::ByNumber, 20),
-        (Rule::FirstIsNone, 11),
-        (Rule::RefusedLeaves, 20),
-        (Rule::LostAtBlocks, 15),
+        (Rule::ByNumber, 36),
+        (Rule::FirstIsNone, 19),
+        (Rule::RefusedLeaves, 25),
+        (Rule::LostAtBlocks, 23),
     ] {
         assert_eq!(count(&breaks_by(rule, &frames)), wrong, "{rule:?}");
     }

@@ -1,7 +1,7 @@
 //! The three demands over many frames, records and flips.
 
 use outside::cases::{Frame, Generator};
-use outside::frame::{self, Record};
+use outside::frame::{self, Correction, Record};
 use outside::refusal::Refusal;
 use outside::tables::{GUARDED, LSP, PLACES, WIDTHS};
 
@@ -56,7 +56,7 @@ fn demand_2_an_accepted_record_reads_back_equal() {
             reading,
             frame::Reading {
                 record,
-                number: 0,
+                correction: Correction::Clean,
                 mark: 0
             }
         );
@@ -74,7 +74,9 @@ fn demand_2_a_frame_writes_back_exactly_when_it_was_clean() {
             g.frame(k % 2)
         };
         let reading = frame::read(&frame).unwrap();
-        let clean = reading.number == 0 && reading.record.sp() == 0 && reading.mark == 0;
+        let clean = reading.correction == Correction::Clean
+            && reading.record.sp() == 0
+            && reading.mark == 0;
         assert_eq!(
             frame::write(&reading.record) == Ok(frame),
             clean,
@@ -100,7 +102,7 @@ fn demand_3_flips_read_the_same_whatever_was_written() {
         }
         let alone = frame::read(&flips).unwrap();
         let reading = frame::read(&xor(&written, &flips)).unwrap();
-        assert_eq!(reading.number, alone.number);
+        assert_eq!(reading.correction, alone.correction);
         for field in 0..28 {
             let expected = record.fields[field] ^ alone.record.fields[field];
             assert_eq!(
@@ -118,7 +120,7 @@ fn demand_3_flips_read_the_same_whatever_was_written() {
             assert_eq!(guarded_data(&reading.record), guarded_data(&record));
         }
         if guarded == 2 {
-            assert_ne!(reading.number, 0);
+            assert_ne!(reading.correction, Correction::Clean);
         }
     }
 }
@@ -134,15 +136,16 @@ fn demand_3_one_guarded_flip_is_mended_and_two_are_reported() {
             frame::flip(&mut one, GUARDED[first - 1]);
             let reading = frame::read(&one).unwrap();
             assert_eq!(
-                (usize::from(reading.number), reading.record),
+                (usize::from(reading.correction.number()), reading.record),
                 (first, record)
             );
             for second in first + 1..=15 {
                 let mut two = one;
                 frame::flip(&mut two, GUARDED[second - 1]);
                 let reading = frame::read(&two).unwrap();
-                assert_eq!(usize::from(reading.number), first ^ second);
-                assert_ne!(reading.number, 0);
+                let number = usize::from(reading.correction.number());
+                assert_eq!(number, first ^ second);
+                assert_ne!(reading.correction, Correction::Clean);
             }
             // Flips outside the guarded places leave the guarded data as written.
             let mut more = one;

@@ -257,21 +257,26 @@ fn listing_from_hearing(bytes: &[u8]) -> String {
     let mut all_sy = vec!["1"];
     for line in heard.lines().filter(|line| line.starts_with("frame ")) {
         let words: Vec<&str> = line.split(' ').collect();
-        let (k, sy) = (words[1], words[29]);
-        assert_eq!((words[30], words[32]), ("number", "mark"));
-        let (number, mark) = (words[31], words[33]);
-        repaired += u32::from(number != "0");
+        let (k, sp, sy) = (words[1], words[28], words[29]);
+        let (number, letter) = (words[31], words[32]);
+        assert_eq!(words[30], "number");
+        // A data hit has its field and its bit after the letter.
+        let data_hit = letter == "d";
+        repaired += u32::from(data_hit);
+        let words = &words[if data_hit { 35 } else { 33 }..];
+        assert_eq!(words[0], "mark");
+        let mark = words[1];
         all_sy.push(sy);
-        if words[34] == "refused" {
-            assert_eq!(words[28], "1");
-            assert_eq!(words[35..], ["6", "sy", sy]);
-            lines.push_str(&format!("{k} {number} refused 6\n"));
+        if words[2] == "refused" {
+            assert_eq!(sp, "1");
+            assert_eq!(words[3..], ["6", "sy", sy]);
+            lines.push_str(&format!("{k} {number} {letter} refused 6\n"));
         } else {
-            assert_eq!((words[28], words[34], words[43]), ("0", "gains", "delays"));
-            assert_eq!((words[48], words[89]), ("averages", "state"));
-            assert_eq!(words[100..], ["sy", sy]);
-            let delays = words[44..48].join(" ");
-            lines.push_str(&format!("{k} {number} {mark} {sy} {delays}\n"));
+            assert_eq!((sp, words[2], words[11]), ("0", "gains", "delays"));
+            assert_eq!((words[16], words[57]), ("averages", "state"));
+            assert_eq!(words[68..], ["sy", sy]);
+            let delays = words[12..16].join(" ");
+            lines.push_str(&format!("{k} {number} {letter} {mark} {sy} {delays}\n"));
         }
     }
     let breaks = all_sy.windows(2).filter(|two| two[0] == two[1]).count() as u32;
@@ -290,7 +295,7 @@ fn listing_and_hearing_agree() {
         for heard in recording::read(&bytes).unwrap().heard() {
             refused += usize::from(heard.values.is_err());
             marked += usize::from(heard.reading.mark != 0);
-            repaired += usize::from(heard.reading.number != 0);
+            repaired += usize::from(heard.reading.correction.is_repair());
         }
     }
     assert!(

@@ -2,7 +2,7 @@
 
 use outside::delays::{self, base};
 use outside::draws::Draws;
-use outside::frame::{self, Record};
+use outside::frame::{self, Correction, Record};
 use outside::gains;
 use outside::listing;
 use outside::lsp::{self, State};
@@ -43,7 +43,7 @@ fn number_2_zero_frame() {
         only(&[]),
         frame::Reading {
             record: Record::ZERO,
-            number: 0,
+            correction: Correction::Clean,
             mark: 0
         }
     );
@@ -51,11 +51,12 @@ fn number_2_zero_frame() {
 
 #[test]
 fn number_3_only_place_104() {
+    assert_eq!(only(&[104]).correction.number(), 15);
     assert_eq!(
         only(&[104]),
         frame::Reading {
             record: Record::ZERO,
-            number: 15,
+            correction: Correction::Data { field: 27, bit: 0 },
             mark: 0
         }
     );
@@ -64,7 +65,8 @@ fn number_3_only_place_104() {
 #[test]
 fn number_4_only_11_and_61() {
     let reading = only(&[11, 61]);
-    assert_eq!(reading.number, 6);
+    assert_eq!(reading.correction, Correction::Data { field: 11, bit: 7 });
+    assert_eq!(reading.correction.number(), 6);
     let mut expected = Record::ZERO;
     expected.fields[10] = 224;
     assert_eq!(reading.record, expected);
@@ -78,7 +80,7 @@ fn number_5_only_21() {
         only(&[21]),
         frame::Reading {
             record: Record::ZERO,
-            number: 1,
+            correction: Correction::Parity(1),
             mark: 0
         }
     );
@@ -154,8 +156,8 @@ fn the_sample_and_its_listing() {
     expected.extend([4, 0, 0, 0, 3, 0, 2, 0, 0, 0]);
     assert_eq!(sample, expected);
     let listing = "unit 7 recording 1 frames 2\n\
-                   1 0 0 0 656 532 656 532\n\
-                   2 15 0 1 656 532 656 532\n\
+                   1 0 c 0 0 656 532 656 532\n\
+                   2 15 d 0 1 656 532 656 532\n\
                    repaired 1 breaks 0\n";
     assert_eq!(String::from_utf8(listing::list(&sample)).unwrap(), listing);
 }
