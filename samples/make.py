@@ -103,6 +103,8 @@ RECORDINGS = {
     "sync-hit": hit(f3=(144,)),
     "mark": hit(f3=(PLACES.index("LSP 4-3") + 1,)),
     "two-hits": hit(f3=(31, 72)),
+    "parity-hit": hit(f3=(94,)),
+    "letters": hit(f2=(21,), f4=(61,), f5=(104, 1), f6=(104, 21)),
     "refused-frame": hit(f3=(104, 21)),
     "lost-after-refused": told(*SPOKEN[:2], flipped(SPOKEN[2], 104, 21), *SPOKEN[4:]),
     "sent": hit(f2=(61,), f5=(PLACES.index("PD(1)-3") + 1,)),
