@@ -1,8 +1,8 @@
 /*
  * oatlantern-decode: 18-byte frames on standard input, one line of text for
  * each on standard output: the 28 indices in field order, the correction
- * number, the order mark. With -v, standard error says what each correction
- * has changed.
+ * number, the order mark, and the letter of the correction's kind. With -v,
+ * standard error says what each correction has changed.
  */
 #include <errno.h>
 #include <stdio.h>
@@ -20,20 +20,28 @@ static int print_frame(const uint8_t *record, int32_t result)
     for (field = 1; field <= OATLANTERN_FIELDS; field++)
         if (printf("%u ", (unsigned)oatlantern_get_index(record, field)) < 0)
             return 0;
-    return printf("%d %d\n", oatlantern_number(result), oatlantern_mark(result)) >= 0;
+    return printf("%d %d %c\n", oatlantern_number(result), oatlantern_mark(result),
+                  oatlantern_kind_letter(oatlantern_kind(result))) >= 0;
 }
 
-/* Says, after the frame's line, what the correction with this number, not 0, has changed. */
-static void say_correction(unsigned long count, int number)
+/* Says, after the frame's line, what its correction has changed; nothing where the frame is clean. */
+static void say_correction(unsigned long count, int32_t result)
 {
-    int field = oatlantern_corrected_field(number);
+    int number = oatlantern_number(result);
 
-    fflush(stdout);
-    if (field == 0)
-        fprintf(stderr, "%s: frame %lu: correction number %d: no index was changed\n", NAME, count, number);
-    else
+    switch (oatlantern_kind(result)) {
+    case OATLANTERN_PARITY_HIT:
+        fflush(stdout);
+        fprintf(stderr, "%s: frame %lu: correction number %d: a parity bit, no index was changed\n", NAME, count, number);
+        break;
+    case OATLANTERN_DATA_HIT:
+        fflush(stdout);
         fprintf(stderr, "%s: frame %lu: correction number %d: bit %d of field %d was inverted\n", NAME, count, number,
-                oatlantern_corrected_bit(number), field);
+                oatlantern_corrected_bit(number), oatlantern_corrected_field(number));
+        break;
+    default:
+        break;
+    }
 }
 
 int main(int argc, char **argv)
@@ -69,8 +77,8 @@ int main(int argc, char **argv)
         }
         if (!print_frame(record, result))
             break;
-        if (verbose && oatlantern_number(result) != 0)
-            say_correction(count, oatlantern_number(result));
+        if (verbose)
+            say_correction(count, result);
     }
 
     if (fflush(stdout) == EOF || ferror(stdout)) {

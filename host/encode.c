@@ -1,7 +1,8 @@
 /*
  * oatlantern-encode: lines of text on standard input, the frame of each on
  * standard output. A line has the 28 indices in field order, and may have the
- * two numbers after them that oatlantern-decode prints; those are not used.
+ * two numbers after them that oatlantern-decode prints, and its letter after
+ * those; they are not used.
  */
 #include <errno.h>
 #include <stdio.h>
@@ -20,21 +21,28 @@ static const char NAME[] = "oatlantern-encode";
 /* What a line was. */
 enum line {
     LINE_NONE,      /* the input has ended */
-    LINE_WHOLE,     /* 28 or 30 numbers, the first 28 now in the record */
+    LINE_WHOLE,     /* 28 or 30 numbers, or 30 and a letter, the first 28 now in the record */
     LINE_MALFORMED, /* anything else; a message has been printed */
     LINE_UNREAD     /* the input could not be read */
 };
 
+/* Whether a byte is a letter that oatlantern-decode prints. */
+static int is_letter(int c)
+{
+    return c == 'c' || c == 'p' || c == 'd';
+}
+
 /*
  * Takes one line, of any length, byte by byte. Numbers are decimal digits,
  * parted by spaces or tabs. One over LARGEST counts as LARGEST, so that the
- * writer refuses it as too large.
+ * writer refuses it as too large. After thirty numbers a letter may stand.
  */
 static enum line take_line(unsigned long at, uint8_t *record)
 {
     unsigned long numbers = 0;
     unsigned long value = 0;
     int in_number = 0;
+    int lettered = 0;
     int c = getchar();
 
     if (c == EOF)
@@ -45,6 +53,10 @@ static enum line take_line(unsigned long at, uint8_t *record)
             if (value > LARGEST)
                 value = LARGEST;
             in_number = 1;
+            continue;
+        }
+        if (is_letter(c) && !in_number && !lettered && numbers == AS_DECODED) {
+            lettered = 1;
             continue;
         }
         if (in_number) {

@@ -35,8 +35,9 @@ static uint32_t next(void)
     return x;
 }
 
-/* The place of each guarded bit, by its number; 0 is none. */
+/* The place of each guarded bit and its field, by its number; 0 is none. */
 static int places[GUARDED + 1];
+static int fields[GUARDED + 1];
 
 static void flip(uint8_t *frame, int place)
 {
@@ -62,6 +63,7 @@ static void table(void)
         lines++;
         check(number == lines && place >= 1 && place <= PLACES, "the table's rows", number);
         places[number] = place;
+        fields[number] = field;
         check(oatlantern_corrected_field(number) == field, "field of a number", number);
         check(oatlantern_corrected_bit(number) == bit, "bit of a number", number);
     }
@@ -86,6 +88,14 @@ static int differ_as_named(const uint8_t *a, const uint8_t *b, int number)
     return 1;
 }
 
+/* The kind that a number says, by the table: a data bit has a field. */
+static int kind_of(int number)
+{
+    if (number == 0)
+        return OATLANTERN_CLEAN;
+    return fields[number] == 0 ? OATLANTERN_PARITY_HIT : OATLANTERN_DATA_HIT;
+}
+
 /*
  * What a correction changed. Flipping the parity bits that a frame's number is
  * the sum of makes its parity agree, and they are in no field: so it is then
@@ -101,6 +111,8 @@ static void correction(long at)
     result = oatlantern_read_frame(frame, sizeof frame, record, sizeof record);
     check(!oatlantern_is_refused(result) && oatlantern_refusal(result) == 0, "every frame is read", at);
     number = oatlantern_number(result);
+    check(result == 16 * oatlantern_mark(result) + number + kind_of(number), "nothing else in the result", at);
+    check(oatlantern_kind(result) == kind_of(number), "the kind of a number", at);
     check(number >= 0 && number <= GUARDED && oatlantern_mark(result) >= 0 && oatlantern_mark(result) < OATLANTERN_LSPS,
           "number and mark", at);
     check(oatlantern_too_large(record) == 0, "indices that were read fit", at);
@@ -108,7 +120,7 @@ static void correction(long at)
         if (number & parity)
             flip(frame, places[parity]);
     result = oatlantern_read_frame(frame, sizeof frame, as_it_came, sizeof as_it_came);
-    check(oatlantern_number(result) == 0, "the parity agrees", at);
+    check(oatlantern_number(result) == 0 && oatlantern_kind(result) == OATLANTERN_CLEAN, "the parity agrees", at);
     check(differ_as_named(record, as_it_came, number), "what the correction changed", at);
 }
 
@@ -129,10 +141,11 @@ static void flips(long at)
         flip(frame, places[n]);
         result = oatlantern_read_frame(frame, sizeof frame, again, sizeof again);
         check(oatlantern_number(result) == n && memcmp(record, again, sizeof record) == 0, "one flip", at);
+        check(oatlantern_kind(result) == kind_of(n), "one flip: its kind", at);
         for (m = 1; m < n; m++) {
             flip(frame, places[m]);
             result = oatlantern_read_frame(frame, sizeof frame, again, sizeof again);
-            check(oatlantern_number(result) == (n ^ m), "two flips: a third number", at);
+            check(oatlantern_number(result) == (n ^ m) && oatlantern_kind(result) == kind_of(n ^ m), "two flips: a third number", at);
             check(memcmp(record, again, sizeof record) != 0, "two flips: a data bit is wrong", at);
             flip(frame, places[m]);
         }
@@ -192,13 +205,14 @@ static void each_index(void)
         }
 }
 
-/* Results taken apart: bits from 256 up change nothing, and a refusal has neither number nor mark. */
+/* Results taken apart: each function takes its own bits whatever the others are, and a refusal has neither number, mark nor kind. */
 static void results(void)
 {
     static const int32_t above[] = { 0, 1, 2, 3, 4, 0x55, 0x800, 0x400000, 0x7fffff };
+    static const char letters[] = "cpd?";
     const int count = sizeof above / sizeof above[0];
     int32_t mark, number, refusal;
-    int i;
+    int i, kind;
 
     for (mark = 0; mark <= 15; mark++)
         for (number = 0; number <= 15; number++)
@@ -206,12 +220,18 @@ static void results(void)
                 const int32_t result = 256 * above[i] + 16 * mark + number;
 
                 check(oatlantern_number(result) == number && oatlantern_mark(result) == mark, "taken apart", result);
+                check(oatlantern_kind(result) == 256 * (above[i] % 4), "the kind", result);
                 check(!oatlantern_is_refused(result) && oatlantern_refusal(result) == 0, "not refused", result);
             }
     for (refusal = 1; refusal <= 300; refusal++) {
         check(oatlantern_is_refused(-refusal) && oatlantern_refusal(-refusal) == refusal, "refused", refusal);
         check(oatlantern_number(-refusal) == 0 && oatlantern_mark(-refusal) == 0, "a refusal has no number", refusal);
+        check(oatlantern_kind(-refusal) == OATLANTERN_CLEAN, "a refusal has no kind", refusal);
     }
+    for (kind = 0; kind <= 3; kind++)
+        check(oatlantern_kind_letter(256 * kind) == letters[kind], "the letter of a kind", kind);
+    for (kind = -300; kind <= 1100; kind++)
+        check((oatlantern_kind_letter(kind) == '?') == (kind != 0 && kind != 256 && kind != 512), "no such kind", kind);
 }
 
 /* Each refusal of the archive, by its name in the header. */

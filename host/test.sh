@@ -111,10 +111,12 @@ for bin in $out $out/sanitized; do
     "$run" "$bin/oatlantern-encode" < "$tmp/lines" > "$tmp/frames"
     [ "$(wc -c < "$tmp/frames")" -eq $((18 * $(wc -l < "$tmp/lines"))) ] || fail "$bin: the frames' size"
     "$run" "$bin/oatlantern-decode" < "$tmp/frames" > "$tmp/read"
-    sed 's/$/ 0 0/' "$tmp/lines" > "$tmp/wanted"
-    same "records come back, number and mark 0" "$tmp/wanted" "$tmp/read"
+    sed 's/$/ 0 0 c/' "$tmp/lines" > "$tmp/wanted"
+    same "records come back, number and mark 0, clean" "$tmp/wanted" "$tmp/read"
     "$run" "$bin/oatlantern-encode" < "$tmp/read" > "$tmp/again"
     same "clean frames come back" "$tmp/frames" "$tmp/again"
+    sed 's/ c$//' "$tmp/read" | "$run" "$bin/oatlantern-encode" > "$tmp/again"
+    same "and without the letter" "$tmp/frames" "$tmp/again"
 
     # Other layouts of the same numbers.
     sed 's/ /\t  /g; s/^/ /; s/$/ \r/' "$tmp/lines" | "$run" "$bin/oatlantern-encode" > "$tmp/again"
@@ -129,10 +131,10 @@ for bin in $out $out/sanitized; do
     printf "$z"'\0\0\0\0\0\0\0\0\0\0\0\0\1\0\0\0\0\0\0\40\0\0\0\0\0\10\0\0\0\0\0\0\0\0\0\0\0\0\10\0\0\0\0\0\0\0\0\0\0\0\0\0\0\0' > "$tmp/worked"
     "$run" "$bin/oatlantern-decode" < "$tmp/worked" > "$tmp/read"
     {
-        echo '0 0 0 0 0 0 0 0 0 0 0 0 0 0 0 0 0 0 0 0 0 0 0 0 0 0 0 0 0 0'
-        echo '0 0 0 0 0 0 0 0 0 0 0 0 0 0 0 0 0 0 0 0 0 0 0 0 0 0 0 0 15 0'
-        echo '0 0 0 0 0 0 0 0 0 0 224 0 0 0 0 0 0 0 0 0 0 0 0 0 0 0 0 0 6 0'
-        echo '0 0 0 0 0 0 0 0 0 0 0 0 0 0 0 0 0 0 0 0 0 0 0 0 0 0 0 0 1 0'
+        echo '0 0 0 0 0 0 0 0 0 0 0 0 0 0 0 0 0 0 0 0 0 0 0 0 0 0 0 0 0 0 c'
+        echo '0 0 0 0 0 0 0 0 0 0 0 0 0 0 0 0 0 0 0 0 0 0 0 0 0 0 0 0 15 0 d'
+        echo '0 0 0 0 0 0 0 0 0 0 224 0 0 0 0 0 0 0 0 0 0 0 0 0 0 0 0 0 6 0 d'
+        echo '0 0 0 0 0 0 0 0 0 0 0 0 0 0 0 0 0 0 0 0 0 0 0 0 0 0 0 0 1 0 p'
     } > "$tmp/wanted"
     same "worked frames" "$tmp/wanted" "$tmp/read"
 
@@ -150,7 +152,7 @@ for bin in $out $out/sanitized; do
     # A part of a frame at the end, after a whole one.
     head -c 25 "$tmp/worked" > "$tmp/part"
     refused "part of a frame" oatlantern-decode "$tmp/part" 1 'oatlantern-decode: frame 2: refused 1: the frame is not 18 bytes or the record not 56 (7 bytes are left)'
-    echo '0 0 0 0 0 0 0 0 0 0 0 0 0 0 0 0 0 0 0 0 0 0 0 0 0 0 0 0 0 0' > "$tmp/wanted"
+    echo '0 0 0 0 0 0 0 0 0 0 0 0 0 0 0 0 0 0 0 0 0 0 0 0 0 0 0 0 0 0 c' > "$tmp/wanted"
     same "the frame before it" "$tmp/wanted" "$tmp/got"
 
     # What the corrections changed, on standard error; the lines are the same.
@@ -161,7 +163,7 @@ for bin in $out $out/sanitized; do
     {
         echo 'oatlantern-decode: frame 2: correction number 15: bit 0 of field 27 was inverted'
         echo 'oatlantern-decode: frame 3: correction number 6: bit 7 of field 11 was inverted'
-        echo 'oatlantern-decode: frame 4: correction number 1: no index was changed'
+        echo 'oatlantern-decode: frame 4: correction number 1: a parity bit, no index was changed'
     } > "$tmp/wanted"
     same "-v: the corrections" "$tmp/wanted" "$tmp/said"
 
@@ -188,7 +190,12 @@ for bin in $out $out/sanitized; do
     bad '0 0 0' 'malformed: 3 numbers, not 28 or 30'
     bad "$sound 0" 'malformed: 29 numbers, not 28 or 30'
     bad "$sound 0 0 0" 'malformed: 31 numbers, not 28 or 30'
+    bad "$sound 0 0 c 0" 'malformed: 31 numbers, not 28 or 30'
     bad "x $sound" 'malformed: byte 0x78 is no digit and no space'
+    bad "$sound c" 'malformed: byte 0x63 is no digit and no space'
+    bad "$sound 0 0 x" 'malformed: byte 0x78 is no digit and no space'
+    bad "$sound 0 0c" 'malformed: byte 0x63 is no digit and no space'
+    bad "$sound 0 0 p d" 'malformed: byte 0x64 is no digit and no space'
     bad "-1 $sound" 'malformed: byte 0x2d is no digit and no space'
     bad "0x1 $sound" 'malformed: byte 0x78 is no digit and no space'
     printf '%s\n\0%s\n' "$sound" "$sound" > "$tmp/in"

@@ -14,9 +14,9 @@
  *         printf("refused %d: %s\n", oatlantern_refusal(result),
  *                oatlantern_refusal_words(oatlantern_refusal(result)));
  *     else
- *         printf("PD of subframe 1 is %d, correction number %d, order mark %d\n",
- *                oatlantern_get_index(record, OATLANTERN_PD_1),
- *                oatlantern_number(result), oatlantern_mark(result));
+ *         printf("PD of subframe 1 is %d, correction number %d %c, order mark %d\n",
+ *                oatlantern_get_index(record, OATLANTERN_PD_1), oatlantern_number(result),
+ *                oatlantern_kind_letter(oatlantern_kind(result)), oatlantern_mark(result));
  *
  * Rules for both functions
  *
@@ -44,10 +44,21 @@
  * same bytes get the same answer.
  *
  * A minor version may add names (all begin with oatlantern_ or OATLANTERN_),
- * and it may set bits of the reader's result from 256 up, which are reserved.
+ * and it may set bits of the reader's result from 1,024 up, which are reserved.
  * So a caller takes results apart by the functions below, takes every result
  * below 0 for a refusal, and looks at no other bit. CHANGELOG.md has the
  * changes of each version.
+ *
+ * 256 and 512 were reserved up to version 1.3 and tell the kind since 1.4. What
+ * a caller sees that was built with an older header and is linked with this
+ * archive: results of frames whose parity agrees are what they were, and so
+ * are refusals; the others are 256 or 512 more. oatlantern_number and
+ * oatlantern_mark of the headers from 1.0 on answer as before. A caller that
+ * divides a result by 16 itself, or was built with a header before 1.0, takes
+ * for the order mark 16 more than it is where a parity bit was hit, and 32 more
+ * where a data bit was inverted, and is to be built again with this header. A
+ * caller built with this header and linked with an older archive finds every
+ * frame's kind OATLANTERN_CLEAN: header and archive belong together.
  */
 #ifndef OATLANTERN_H
 #define OATLANTERN_H
@@ -62,9 +73,9 @@ extern "C" {
 /* ---- The version of this header ---- */
 
 #define OATLANTERN_VERSION_MAJOR 1
-#define OATLANTERN_VERSION_MINOR 3
+#define OATLANTERN_VERSION_MINOR 4
 #define OATLANTERN_VERSION_PATCH 0
-#define OATLANTERN_VERSION "1.3.0"
+#define OATLANTERN_VERSION "1.4.0"
 
 /* ---- Sizes ---- */
 
@@ -146,6 +157,15 @@ enum oatlantern_field {
 #define OATLANTERN_REFUSED_EXPANSION 6  /* writer: the expansion bit SP is set */
 
 /*
+ * ---- The kinds of a correction ----
+ *
+ * What correction did in a frame. oatlantern_kind takes it out of a result.
+ */
+#define OATLANTERN_CLEAN 0         /* the parity agrees: nothing was changed */
+#define OATLANTERN_PARITY_HIT 256  /* the number is that of a parity bit: no index was changed */
+#define OATLANTERN_DATA_HIT 512    /* the number is that of a data bit, and that bit was inverted */
+
+/*
  * ---- The functions ----
  *
  * oatlantern_read_frame reads the frame and puts its record into `record`.
@@ -153,21 +173,23 @@ enum oatlantern_field {
  *     0 or more   the frame was read. All 56 bytes of the record have been
  *                 written, each index within the width of its field. The
  *                 lowest four bits of the result are the correction number,
- *                 the next four the order mark: oatlantern_number and
- *                 oatlantern_mark take them out. The bits above, from 256 up,
- *                 are reserved. They are 0 in this version.
+ *                 the next four the order mark, the next two the kind of the
+ *                 correction: oatlantern_number, oatlantern_mark and
+ *                 oatlantern_kind take them out. The bits above, from 1,024
+ *                 up, are reserved. They are 0 in this version.
  *     -1          frame_len is not 18 or record_len is not 56.
  *
  * Any 18 bytes are a frame and have a reading. Whether to use it is the
- * caller's choice, by the two numbers in the result:
+ * caller's choice, by what the result tells:
  *
  * The correction number (0 to 15) tells what the parity says. Fifteen of the
  * 144 bits are guarded, and each has a number: four parity bits and eleven data
  * bits.
- *     0           the parity agrees: nothing was changed.
- *     1, 2, 4, 8  the number of a parity bit: no index was changed.
- *     the others  the number of a data bit, which was inverted before the
- *                 indices were put into the record:
+ *     0           OATLANTERN_CLEAN: the parity agrees, nothing was changed.
+ *     1, 2, 4, 8  OATLANTERN_PARITY_HIT: the number of a parity bit, no index
+ *                 was changed.
+ *     the others  OATLANTERN_DATA_HIT: the number of a data bit, which was
+ *                 inverted before the indices were put into the record:
  *                      3  PD_1 bit 5      9  PG_2 bit 4     13  PG_3 bit 4
  *                      5  PD_1 bit 6     10  PD_3 bit 5     14  PG_4 bit 4
  *                      6  PD_1 bit 7     11  PD_3 bit 6     15  SP
@@ -183,8 +205,8 @@ enum oatlantern_field {
  *                 never mended: the number is that of a third bit. If that is
  *                 a data bit, it is wrong now as well. If it is a parity bit,
  *                 nothing was inverted and the two stand as they were flipped;
- *                 both may be data bits. So 1, 2, 4 and 8 do not say that the
- *                 data bits are right.
+ *                 both may be data bits. So OATLANTERN_PARITY_HIT says that the
+ *                 data bits were left as they came, not that they are right.
  *     more        any number, 0 among them.
  * The other 129 bits are not guarded: a flip there is read as it stands.
  *
@@ -216,7 +238,7 @@ int32_t oatlantern_write_frame(const uint8_t *record, size_t record_len, uint8_t
  * ---- Results taken apart ----
  *
  * `result` is one that a function above gave. Bits that are not named here do
- * not change what these answer.
+ * not change what these answer: each takes out its own by a mask.
  */
 
 /* Whether a result of either function is a refusal: 1 or 0. */
@@ -253,13 +275,34 @@ static inline const char *oatlantern_refusal_words(int refusal)
 /* The order mark in a result of oatlantern_read_frame, or 0 where it is a refusal. */
 static inline int oatlantern_mark(int32_t result)
 {
-    return result < 0 ? 0 : result / 16 % 16;
+    return result < 0 ? 0 : result >> 4 & 15;
 }
 
 /* The correction number in a result of oatlantern_read_frame, or 0 where it is a refusal. */
 static inline int oatlantern_number(int32_t result)
 {
-    return result < 0 ? 0 : result % 16;
+    return result < 0 ? 0 : result & 15;
+}
+
+/* The kind of the correction in a result of oatlantern_read_frame, or OATLANTERN_CLEAN where it is a refusal. */
+static inline int oatlantern_kind(int32_t result)
+{
+    return result < 0 ? OATLANTERN_CLEAN : result & (OATLANTERN_PARITY_HIT | OATLANTERN_DATA_HIT);
+}
+
+/* The letter of a kind, as the listing has it: c, p or d. Any other number has '?'. */
+static inline char oatlantern_kind_letter(int kind)
+{
+    switch (kind) {
+    case OATLANTERN_CLEAN:
+        return 'c';
+    case OATLANTERN_PARITY_HIT:
+        return 'p';
+    case OATLANTERN_DATA_HIT:
+        return 'd';
+    default:
+        return '?';
+    }
 }
 
 /* The field of the data bit that a correction number names, or 0 where it names none. Any number has an answer. */
