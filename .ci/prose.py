@@ -33,7 +33,7 @@ NOT_RUN = re.compile(r"rt |\.ci/run|cargo |make |cc |git |samples/make\.py |\.ci
 RUN = re.compile(r"(\./run target/\S+|oatlantern-\w+|head|sed -n|cut|tail|od|wc|cmp|diff|printf|echo)\b")
 TALLIED = r"held \d+|total \d+|entries \d+|book \d+"
 CHANGE = r"dropped \d+ bytes from \d+|kept \d+ frames|end written at \d+"
-LISTING = re.compile(r"unit \d+ recording \d+ frames \d+|\d+ \d+ (refused \d+|\d+ [01]( \d+){4})|repaired \d+ breaks \d+|refused \d+ at \d+( \d+)?"
+LISTING = re.compile(r"unit \d+ recording \d+ frames \d+|\d+ \d+ [cpd] (refused \d+|\d+ [01]( \d+){4})|repaired \d+ breaks \d+|refused \d+ at \d+( \d+)?"
                      rf"|frame \d+( \d+){{28}} .*|block( \d+){{3}}|{CHANGE}|{TALLIED}")
 independent = Path(sys.argv[2]).resolve() if sys.argv[1:2] == ["--with"] else None
 cases, faults = 0, []
@@ -72,6 +72,9 @@ def names_in(path, name):
 
 PLACES = names_in("crates/frame/specs/Places.antt", "places")
 GUARDED = names_in("crates/frame/specs/Parity.antt", "guarded")
+# of each case of a correction its letter, and what it adds to the C reader's result
+LETTERS = dict(re.findall(r'^letterOf \(?(\w+)[^=]*= ascii "(.)"$', read("crates/lines/specs/Lines.antt"), re.M))
+KINDS = dict(re.findall(r"^kindOf \(?(\w+)[^=]*= (\d+)$", read("crates/gateway/specs/Results.antt"), re.M))
 NUMBER = {PLACES.index(name) + 1: n for n, name in enumerate(GUARDED, 1)}
 LONGEST = int(re.search(r"^longest = (\d+)$", read("crates/blocks/specs/Walk.antt"), re.M)[1])
 
@@ -180,10 +183,19 @@ for path in pages(PAGES) + pages(MANUAL):
 
 # the names that C has for refusals, in the header and on its page
 IN_C = {"LENGTH": "WrongLength", "TOO_LARGE": "TooLarge", "FALLING": "Falling", "EXPANSION": "Expansion"}
+# and for the kinds of a correction, with their letters
+CASE_IN_C, told, named = {"CLEAN": "Clean", "PARITY_HIT": "Parity", "DATA_HIT": "Data"}, set(), None
 for path in pages(["include/oatlantern.h", "host/oatlantern.3"]):
     for n, line in lines_of(path):
         for name, number in re.findall(r'OATLANTERN_REFUSED_([A-Z_]+)[\s="(]+(\d+)\b', line):
             hold(int(number) in REFUSALS.get(IN_C.get(name), ()), path, n, f"{name} is not refusal {number}")
+        for name, number in re.findall(r"define OATLANTERN_(CLEAN|PARITY_HIT|DATA_HIT) (\d+)", line):
+            hold(KINDS[CASE_IN_C[name]] == number, path, n, f"{name} is not {number}")
+            told.add(name)
+        for name, shown in re.findall(r"case OATLANTERN_(CLEAN|PARITY_HIT|DATA_HIT):|return '([cpd])';", line):
+            named = name or named
+            hold(not shown or LETTERS[CASE_IN_C[named]] == shown, path, n, f"{named} has not the letter {shown}")
+hold(told == set(CASE_IN_C), "include/oatlantern.h", 1, f"defines {sorted(told)} of the kinds")
 
 
 # ---- The handbook's tables ----
@@ -216,13 +228,28 @@ def repair(name):
     return f"inverts bit {m[3]}{top} of the {NTH[m[2]]} quarter's {'delay' if m[1] == 'PD' else 'PG'}"
 
 
-rows = table(BOOK, "| number | guarded bit | place |")
-wanted = [["0", "none", "none", "nothing; every bit is read as it came"]]
-wanted += [[str(n), name, str(PLACES.index(name) + 1), repair(name)] for n, name in enumerate(GUARDED, 1)]
+def letter(number):
+    """The letter of a correction number."""
+    return LETTERS["Clean" if number == 0 else "Parity" if GUARDED[number - 1].startswith("HP") else "Data"]
+
+
+def numbers_in(said):
+    """The numbers of a list of numbers and stretches, as `3, 5, 9 to 15`."""
+    return [n for first, last in re.findall(r"(\d+)(?: to (\d+))?", said) for n in range(int(first), int(last or first) + 1)]
+
+
+rows = table(BOOK, "| number | letter | guarded bit | place |")
+wanted = [["0", f"`{letter(0)}`", "none", "none", "nothing; every bit is read as it came"]]
+wanted += [[str(n), f"`{letter(n)}`", name, str(PLACES.index(name) + 1), repair(name)] for n, name in enumerate(GUARDED, 1)]
 hold(len(rows) == len(wanted), BOOK, 1, f"{len(rows)} rows of correction numbers, not {len(wanted)}")
 for (n, cells), row in zip(rows, wanted):
     for cell, right in zip(cells, row):
         hold(cell == right, BOOK, n, f"has `{cell}` where the definitions have `{right}`")
+
+rows = table(BOOK, "| letter | numbers |")
+hold([cells[0][1] for n, cells in rows] == list(LETTERS.values()), BOOK, 1, "the table of letters has not every letter in turn")
+for n, cells in rows:
+    hold(numbers_in(cells[1]) == [k for k in range(16) if letter(k) == cells[0][1]], BOOK, n, f"`{cells[0][1]}` has not the numbers {cells[1]}")
 
 named = {}
 for n, cells in table(BOOK, "| number | what is wrong | what it tells |"):

@@ -16,7 +16,8 @@ is needed:
                                        the interpreter's word that what it does has no meaning (a sum that does not fit)
 
 The last two count only where the edit says so. For an edit without such a line a run is looked for among all there are; --find writes the
-line, and writes it anew where it is no longer true. Every run is made of the right program too, which has to print what it should. With
+line, and writes it anew where it is no longer true. Every run is made of the right program too, which has to print what it should: one of
+each program by `rt try`, the others of what that has compiled. With
 --since only the edits of crates are tried that changed after COMMIT. Edits of specs/ change what is promised, so they are no wrong
 programs and are not tried. The last line is `N cases, M faults`; the exit is 1 if there are faults or no cases.
 """
@@ -130,12 +131,15 @@ class Room:
                     found[way] = ELSE
         return found, done.stdout + done.stderr
 
-    def other(self, kept, run):
-        """Whether a program that was kept ends by itself and writes something else than it should, to one of the two outputs."""
+    def other(self, kept, run, status=False):
+        """Whether a program that was kept ends by itself and writes something else than it should, to one of the two outputs; with `status`
+        it is something else too if it ends with another status than 0."""
         _, _, data, told, said = run
         with open(data or os.devnull, "rb") as source:
             done = subprocess.run([ROOT / "run", self.kept / kept], stdin=source, capture_output=True, timeout=10, check=False)
-        return done.returncode == 0 and (done.stdout != told.read_bytes() or (said is not None and done.stderr != said.read_bytes()))
+        if done.returncode != 0:
+            return status
+        return done.stdout != told.read_bytes() or (said is not None and done.stderr != said.read_bytes())
 
     def differs(self, runs):
         """The first run in which the program kept from -O0, or the one from -O3, ends and prints something else; or None.
@@ -206,6 +210,18 @@ class Trial:
         room = self.rooms.get()
         try:
             return room.tried(texts, run)
+        finally:
+            self.rooms.put(room)
+
+    def right(self, program, used):
+        """The faults of the right program: by `rt try` in one of the runs that were used, and in the others as it was compiled there."""
+        first, *others = sorted((run for run in used if run[0] == program), key=str)
+        room = self.rooms.get()
+        try:
+            found, said = room.tried({}, first)
+            if found is None or set(found.values()) != {"right"}:
+                return [f"{' '.join(first[:2])}: {found or said.strip()[:300]}"]
+            return [" ".join(run[:2]) for run in others if any(room.other(kept, run, status=True) for kept in ("0", "1"))]
         finally:
             self.rooms.put(room)
 
@@ -303,11 +319,9 @@ def main():
                 faults += fault
                 used |= {run} if run else set()
                 print(("FAULT " if fault else "") + said, flush=True)
-            for run, (found, said) in zip(sorted(used, key=str), pool.map(lambda run: trial.tried({}, run), sorted(used, key=str))):
-                right = found is not None and set(found.values()) == {"right"}
-                faults += not right
-                if not right:
-                    print(f"FAULT the right program: {' '.join(run[:2])}: {found or said.strip()[:300]}")
+            for fault in (fault for found in pool.map(lambda program: trial.right(program, used), sorted({run[0] for run in used})) for fault in found):
+                faults += 1
+                print(f"FAULT the right program: {fault}")
     print(f"the right program prints what it should in {len(used)} runs" if not faults else f"{len(used)} runs of the right program were made")
     print(f"{time.time() - started:.0f} s, edits of code tried: {len(wanted)} cases, {faults} faults")
     return 1 if faults or not wanted else 0
