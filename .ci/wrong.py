@@ -5,7 +5,7 @@
 
 An edit is made in a copy of the sources, and a program that uses what it changes is run on it, unproved, by `rt try`. What counts is
 what the compiled program does, at -O0 or at -O3: it writes something else. The edit file names the run, which is then the only one that
-is needed:
+is needed; `rt try` then compiles with no input, and what it has compiled is run on the one that is named, since its interpreter is slow:
 
     seen: list                         the program on its own `stdin`, held to its own `stdout`
     seen: list samples/cut.rec         on a recording of samples/, held to the file of the program's name beside it
@@ -106,9 +106,8 @@ class Room:
         (kit / inner).chmod(0o755)
         return kit
 
-    def tried(self, texts, run):
-        """What `rt try` says of each way to run a program, with these texts for some files; None where it is not compiled."""
-        program, _, data, told, said = run
+    def try_out(self, texts, program, data, told):
+        """What `rt try` prints of a program with these texts for some files, on an input and held to an output if there are such."""
         for old in self.kept.iterdir():
             old.unlink()
         for (crate, file), text in texts.items():
@@ -119,11 +118,27 @@ class Room:
             if source:
                 shutil.copy(source, own / name)
         try:
-            done = subprocess.run(["rt", "try", program], cwd=self.folder, env={**os.environ, "RATTLE_HOME": str(self.kit)}, capture_output=True, text=True,
+            return subprocess.run(["rt", "try", program], cwd=self.folder, env={**os.environ, "RATTLE_HOME": str(self.kit)}, capture_output=True, text=True,
                                   errors="replace", check=False)
         finally:
             for crate, file in texts:
                 shutil.copy(CRATES / crate / file, self.folder / "crates" / crate / file)
+
+    def seen(self, texts, run):
+        """What a program that was compiled with these texts, at -O0 or at -O3, ends with and prints in a run other than it should, or None."""
+        self.try_out(texts, run[0], None, None)
+        for kept in ("0", "1"):
+            try:
+                if (self.kept / kept).exists() and (other := self.other(kept, run)):
+                    return other
+            except subprocess.TimeoutExpired:
+                pass
+        return None
+
+    def tried(self, texts, run):
+        """What `rt try` says of each way to run a program, with these texts for some files; None where it is not compiled."""
+        program, _, data, told, said = run
+        done = self.try_out(texts, program, data, told)
         found = answers(done.stdout)
         if found and said:
             for way, kept in (("-O0", "0"), ("-O3", "1")):
@@ -132,14 +147,18 @@ class Room:
         return found, done.stdout + done.stderr
 
     def other(self, kept, run, status=False):
-        """Whether a program that was kept ends by itself and writes something else than it should, to one of the two outputs; with `status`
-        it is something else too if it ends with another status than 0."""
+        """Where a program that was kept ends by itself and writes something else than it should, to one of the two outputs, what it is, or None;
+        with `status` it is something else too if it ends with another status than 0."""
         _, _, data, told, said = run
         with open(data or os.devnull, "rb") as source:
             done = subprocess.run([ROOT / "run", self.kept / kept], stdin=source, capture_output=True, timeout=10, check=False)
         if done.returncode != 0:
-            return status
-        return done.stdout != told.read_bytes() or (said is not None and done.stderr != said.read_bytes())
+            return f"status {done.returncode}" if status else None
+        for found, wanted in ((done.stdout, told.read_bytes()), (done.stderr, said.read_bytes() if said else None)):
+            if wanted is not None and found != wanted:
+                at = next((n for n, (a, b) in enumerate(zip(found, wanted)) if a != b), min(len(found), len(wanted)))
+                return f"at byte {at} {found[at:at + 40]!r} for {wanted[at:at + 40]!r}"
+        return None
 
     def differs(self, runs):
         """The first run in which the program kept from -O0, or the one from -O3, ends and prints something else; or None.
@@ -206,24 +225,27 @@ class Trial:
         places = {(edit.crate, *place[:3]) for place in changed(edit) if place}
         return sorted((p for p in self.main if places & self.reached[p] or p == edit.crate), key=lambda p: len(below(p, self.listed)))
 
-    def tried(self, texts, run):
+    def by_room(self, work):
         room = self.rooms.get()
         try:
-            return room.tried(texts, run)
+            return work(room)
         finally:
             self.rooms.put(room)
+
+    def tried(self, texts, run):
+        return self.by_room(lambda room: room.tried(texts, run))
 
     def right(self, program, used):
         """The faults of the right program: by `rt try` in one of the runs that were used, and in the others as it was compiled there."""
         first, *others = sorted((run for run in used if run[0] == program), key=str)
-        room = self.rooms.get()
-        try:
+
+        def work(room):
             found, said = room.tried({}, first)
             if found is None or set(found.values()) != {"right"}:
                 return [f"{' '.join(first[:2])}: {found or said.strip()[:300]}"]
-            return [" ".join(run[:2]) for run in others if any(room.other(kept, run, status=True) for kept in ("0", "1"))]
-        finally:
-            self.rooms.put(room)
+            return [f"{' '.join(run[:2])}: {other}" for run in others for kept in ("0", "1") if (other := room.other(kept, run, status=True))]
+
+        return self.by_room(work)
 
     def looked_for(self, texts, programs):
         """A run that shows an edit, and what it shows; the best there is. Where there is none and a program is not compiled, why."""
@@ -255,6 +277,8 @@ class Trial:
             return str(fault), True, None
         words, how = parted(edit.seen)
         if run := self.runs.named(words):
+            if how == ELSE and (other := self.by_room(lambda room: room.seen(texts, run))):
+                return f"{edit}: {edit.seen}: {other}", False, run
             found, said = self.tried(texts, run)
             if found and verdict(found) == how:
                 return f"{edit}: {edit.seen}: {difference(said)}", False, run

@@ -59,7 +59,8 @@ module _ (n : ℕ) (e : n ≡ 0 → ⊥) where
     pub parity-case : getD t (n - 1) 0 / 16 ≡ 0 → Parity n ≡ correctionOf n
     parity-case z = parity-hit h (sym is-field ∙ z)
 
-    pub data-case : (getD t (n - 1) 0 / 16 ≡ 0 → ⊥) → Data (getD t (n - 1) 0 / 16) (getD t (n - 1) 0 % 16) ≡ correctionOf n
+    pub data-case : (getD t (n - 1) 0 / 16 ≡ 0 → ⊥)
+        → Data (getD t (n - 1) 0 / 16) (getD t (n - 1) 0 % 16) ≡ correctionOf n
     data-case z = (λ i. Data (is-field i) (is-bit i)) ∙ data-hit h (λ w. z (is-field ∙ w))
 
 -- ---- what a case says of its number

@@ -269,11 +269,15 @@ module _ (b : ℕ → ℕ) (bits : (p : ℕ) → b p < 2) where
         getD-set-other v F f (bitXor (getD v F 0) (2 ^ K)) 0 e ∙ at-field f l
         ∙ away f (λ q p r o w. e (sym o ∙ ap fieldAt w ∙ field-of-guarded (number b) a h))
 
-  -- in every field of the record the mended list of indices holds the index of the mended bits; the parity bits, which no
-  -- correction of the list changes, are not among them
-  pub mended-fields : (f : ℕ) → 1 ≤ f → f < 29 → getD (mendedFields v (correctionOf (number b))) f 0 ≡ indexIn (mended b) f
+  -- the list of indices after correction
+  abbrev w : List ℕ
+  w = mendedFields v (correctionOf (number b))
+
+  -- in every field of the record it holds the index of the mended bits; the parity bits, which no correction of the list
+  -- changes, are not among them
+  pub mended-fields : (f : ℕ) → 1 ≤ f → f < 29 → getD w f 0 ≡ indexIn (mended b) f
   unfolding correctionOf
-  mended-fields f w l = go (ℕ-discrete (number b) 0)
+  mended-fields f a l = go (ℕ-discrete (number b) 0)
     where
       kept : ((q : ℕ) → 1 ≤ q → q ≤ 144 → fieldAt q ≡ f → q ≡ guardedPlace (number b) → ⊥)
           → getD v f 0 ≡ indexIn (mended b) f
@@ -303,7 +307,7 @@ module _ (b : ℕ → ℕ) (bits : (p : ℕ) → b p < 2) where
           (hit (omega (arith, e)) (ℕ-discrete (F (omega (arith, e))) 0))
 
   -- so the record read is that of the mended bits
-  pub record-read : recordBy (mendedFields v (correctionOf (number b))) ≡ recordOf (mended b)
+  pub record-read : recordBy w ≡ recordOf (mended b)
   record-read =
       λ i. record {
         lsp = parameters i;
@@ -312,14 +316,12 @@ module _ (b : ℕ → ℕ) (bits : (p : ℕ) → b p < 2) where
         sy = mended-fields 28 (omega arith) (omega arith) i;
       }
     where
-      parameters : tabulate (λ k. getD (mendedFields v (correctionOf (number b))) (k + 1) 0) 10
-          ≡ tabulate (λ k. indexIn (mended b) (k + 1)) 10
+      parameters : tabulate (λ k. getD w (k + 1) 0) 10 ≡ tabulate (λ k. indexIn (mended b) (k + 1)) 10
       parameters =
-          tabulate-cong (λ k. getD (mendedFields v (correctionOf (number b))) (k + 1) 0) (λ k. indexIn (mended b) (k + 1)) 10
+          tabulate-cong (λ k. getD w (k + 1) 0) (λ k. indexIn (mended b) (k + 1)) 10
           (λ k l. mended-fields (k + 1) (omega arith) (omega arith))
 
-      indices : tabulate (λ k. getD (mendedFields v (correctionOf (number b))) (k + 11) 0) 16
-          ≡ tabulate (λ k. indexIn (mended b) (k + 11)) 16
+      indices : tabulate (λ k. getD w (k + 11) 0) 16 ≡ tabulate (λ k. indexIn (mended b) (k + 11)) 16
       indices =
-          tabulate-cong (λ k. getD (mendedFields v (correctionOf (number b))) (k + 11) 0) (λ k. indexIn (mended b) (k + 11)) 16
+          tabulate-cong (λ k. getD w (k + 11) 0) (λ k. indexIn (mended b) (k + 11)) 16
           (λ k l. mended-fields (k + 11) (omega arith) (omega arith))

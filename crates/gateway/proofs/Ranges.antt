@@ -1,5 +1,5 @@
--- What the reader answers where it reads: 16 times the order mark plus the correction number is below 160, with what the
--- kind adds it is below 672, and it comes apart again.
+-- What the reader answers where it reads: 16 times the order mark plus the correction number is below 160, with what
+-- the kind adds it is below 672, and it comes apart again.
 -- Assumes nothing.
 use mathlib.Core.Path.{_≡_, refl}
 use mathlib.Core.List.{List}
@@ -38,10 +38,15 @@ module _ (s : List ℕ) where
 
   pub reading-mark : resultOf (readingOf s) / 16 % 16 ≡ readingOf s .mark
   reading-mark =
-      let k = kind-whole (readingOf s .correction) in let r = reading-range s in omega (arith, k, r .numbered, r .marked)
+      let k = kind-whole (readingOf s .correction) in
+      let r = reading-range s in
+      omega (arith, k, r .numbered, r .marked)
 
   pub reading-number : resultOf (readingOf s) % 16 ≡ correctionNumber (readingOf s)
-  reading-number = let k = kind-whole (readingOf s .correction) in let r = reading-range s in omega (arith, k, r .numbered)
+  reading-number =
+      let k = kind-whole (readingOf s .correction) in
+      let r = reading-range s in
+      omega (arith, k, r .numbered)
 
   -- without the kind mark and number are left
   pub reading-rest : resultOf (readingOf s) % 256 ≡ 16 * readingOf s .mark + correctionNumber (readingOf s)

@@ -1,5 +1,5 @@
--- The lines of a listing (document 01, "The listing program"; document 02, K5). Fields are one space apart and each line
--- ends in a newline.
+-- The lines of a listing (document 01, "The listing program"; document 02, K5). Fields are one space apart and each
+-- line ends in a newline.
 use mathlib.Core.Bool.{cond}
 use mathlib.Core.List.{List, [], _∷_, _++_}
 use Prim.Native.Nat.{ℕ}
@@ -36,7 +36,8 @@ unfoldable pub fields : List ℕ → List ℕ
 fields [] = []
 fields (n ∷ ns) = ascii " " ++ decimal n ++ fields ns
 
--- "the correction number keeps its place and a letter follows it as a field of its own: `c`, `p` or `d`" (document 02, K5)
+-- "the correction number keeps its place and a letter follows it as a field of its own: `c`, `p` or `d`" (document 02,
+-- K5)
 abbrev pub letterOf : Correction → List ℕ
 letterOf Clean = ascii "c"
 letterOf (Parity n) = ascii "p"

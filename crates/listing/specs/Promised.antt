@@ -41,8 +41,8 @@ unfoldable pub LetterListed : Type 0
 LetterListed =
     (n : ℕ) (h : Hearing)
     → (frameOf n h
-    ≡ decimal n ++ ascii " " ++ decimal (correctionNumber (h .reading)) ++ ascii " " ++ letterOf (h .reading .correction)
-    ++ restOf (saidOf n h) ++ ascii "\n")
+    ≡ decimal n ++ ascii " " ++ decimal (correctionNumber (h .reading)) ++ ascii " "
+    ++ letterOf (h .reading .correction) ++ restOf (saidOf n h) ++ ascii "\n")
     × (h .values .outcome ≡ Expansion → restOf (saidOf n h) ≡ ascii " refused 6")
 
 -- a buffer of any other length is refused (1) and stays as it was

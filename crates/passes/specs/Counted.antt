@@ -15,8 +15,8 @@ use Rattle.values.specs.declared.LastSy.the-variants.{Never, Was}
 use Rattle.values.specs.declared.State.{State}
 use Rattle.passes.specs.declared.Counts.{Counts}
 
--- a repaired frame is one in which a data bit was inverted: "'Repaired' counts only `d` from now on" (document 02, K5, in
--- place of 01's correction number that isn't 0)
+-- a repaired frame is one in which a data bit was inverted: "'Repaired' counts only `d` from now on" (document 02, K5,
+-- in place of 01's correction number that isn't 0)
 abbrev pub repairOf : Correction → ℕ
 repairOf Clean = 0
 repairOf (Parity n) = 0

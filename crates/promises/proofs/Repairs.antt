@@ -31,8 +31,8 @@ use Rattle.promises.specs.Worked.{only, isIn}
 use Rattle.promises.specs.Repairs.{FifteenPlaces, readBit, AsItCame, CleanChangesNothing, ParityHitChangesNothing}
 use Rattle.promises.specs.Repairs.{DataHitInvertsOne, Numbered, CaseOfEach, OneNumberEach, TwoNeverMended}
 use Rattle.promises.specs.Repairs.{UnguardedUnseen, ThreeUnseen}
-use Rattle.promises.specs.Repairs.Numbered.{none, HP-0, HP-1, PD1-5, HP-2, PD1-6, PD1-7, PG1-4, HP-3, PG2-4, PD3-5}
-use Rattle.promises.specs.Repairs.Numbered.{PD3-6, PD3-7, PG3-4, PG4-4, SP-0}
+use Rattle.promises.specs.Repairs.Numbered.{none, HP-0, HP-1, PD1-5, HP-2, PD1-6, PD1-7, PG1-4, HP-3, PG2-4}
+use Rattle.promises.specs.Repairs.Numbered.{PD3-5, PD3-6, PD3-7, PG3-4, PG4-4, SP-0}
 use Rattle.promises.proofs.Frames.{read-number, read-bit, flips-bit, flips-number, two-third}
 
 -- a bit at another place than the number's is read as it came
@@ -88,7 +88,8 @@ parity-hit-changes-nothing s full n e f i a l w = as-it-came s full f i a l w (o
     off (yes z) = off-zero s full f i a l w (told s) z
     off (no z) =
         let h = below-sixteen s in
-        off-parity s full f i a l w (told s) (omega (arith, z)) (omega (arith, h)) (of-parity (told s) n h (means s e) z)
+        off-parity s full f i a l w (told s) (omega (arith, z)) (omega (arith, h))
+        (of-parity (told s) n h (means s e) z)
 
 pub data-hit-inverts-one : DataHitInvertsOne
 unfolding DataHitInvertsOne
@@ -149,56 +150,38 @@ numbered (suc (suc (suc (suc (suc (suc (suc (suc (suc (suc (suc (suc zero)))))))
 numbered (suc (suc (suc (suc (suc (suc (suc (suc (suc (suc (suc (suc (suc zero))))))))))))) h = PG3-4
 numbered (suc (suc (suc (suc (suc (suc (suc (suc (suc (suc (suc (suc (suc (suc zero)))))))))))))) h = PG4-4
 numbered (suc (suc (suc (suc (suc (suc (suc (suc (suc (suc (suc (suc (suc (suc (suc zero))))))))))))))) h = SP-0
-numbered (suc (suc (suc (suc (suc (suc (suc (suc (suc (suc (suc (suc (suc (suc (suc (suc n)))))))))))))))) h = absurd (omega arith)
+numbered (suc (suc (suc (suc (suc (suc (suc (suc (suc (suc (suc (suc (suc (suc (suc (suc n)))))))))))))))) h =
+    absurd (omega arith)
 
 pub case-of-each : CaseOfEach
 unfolding CaseOfEach
 case-of-each s = subst (Numbered (told s)) (sym (reading-case s)) (numbered (told s) (below-sixteen s))
 
 -- the number of a case, and the case of a number
-number-told : (n : ℕ) (c : Correction) → Numbered n c → n ≡ numberOfCase c
-unfolding dataNumber lowestFrom
-number-told n c none = refl
-number-told n c HP-0 = refl
-number-told n c HP-1 = refl
-number-told n c PD1-5 = refl
-number-told n c HP-2 = refl
-number-told n c PD1-6 = refl
-number-told n c PD1-7 = refl
-number-told n c PG1-4 = refl
-number-told n c HP-3 = refl
-number-told n c PG2-4 = refl
-number-told n c PD3-5 = refl
-number-told n c PD3-6 = refl
-number-told n c PD3-7 = refl
-number-told n c PG3-4 = refl
-number-told n c PG4-4 = refl
-number-told n c SP-0 = refl
-
-case-told : (n : ℕ) (c : Correction) → Numbered n c → c ≡ correctionOf n
-unfolding correctionOf
-case-told n c none = refl
-case-told n c HP-0 = refl
-case-told n c HP-1 = refl
-case-told n c PD1-5 = refl
-case-told n c HP-2 = refl
-case-told n c PD1-6 = refl
-case-told n c PD1-7 = refl
-case-told n c PG1-4 = refl
-case-told n c HP-3 = refl
-case-told n c PG2-4 = refl
-case-told n c PD3-5 = refl
-case-told n c PD3-6 = refl
-case-told n c PD3-7 = refl
-case-told n c PG3-4 = refl
-case-told n c PG4-4 = refl
-case-told n c SP-0 = refl
+each-told : (n : ℕ) (c : Correction) → Numbered n c → (n ≡ numberOfCase c) × (c ≡ correctionOf n)
+unfolding correctionOf dataNumber lowestFrom
+each-told n c none = (refl, refl)
+each-told n c HP-0 = (refl, refl)
+each-told n c HP-1 = (refl, refl)
+each-told n c PD1-5 = (refl, refl)
+each-told n c HP-2 = (refl, refl)
+each-told n c PD1-6 = (refl, refl)
+each-told n c PD1-7 = (refl, refl)
+each-told n c PG1-4 = (refl, refl)
+each-told n c HP-3 = (refl, refl)
+each-told n c PG2-4 = (refl, refl)
+each-told n c PD3-5 = (refl, refl)
+each-told n c PD3-6 = (refl, refl)
+each-told n c PD3-7 = (refl, refl)
+each-told n c PG3-4 = (refl, refl)
+each-told n c PG4-4 = (refl, refl)
+each-told n c SP-0 = (refl, refl)
 
 pub one-number-each : OneNumberEach
 unfolding OneNumberEach
 one-number-each = (
-  λ m n c p q. number-told m c p ∙ sym (number-told n c q),
-  λ n c d p q. case-told n c p ∙ sym (case-told n d q),
+  λ m n c p q. each-told m c p .0 ∙ sym (each-told n c q .0),
+  λ n c d p q. each-told n c p .1 ∙ sym (each-told n d q .1),
 )
 
 pub two-never-mended : TwoNeverMended

@@ -23,6 +23,6 @@ use Rattle.promises.specs.Worked.{workedNumbers, AllTwelve}
 pub all-twelve : AllTwelve
 unfolding AllTwelve workedNumbers apart nearestOf twelfthsOf printedByte rankOf rankWith meantBy averagesOf delaysOf
     lowestFrom tabulateFrom total fromBits placeIn cgTable pgTable delays bytes hzTable tooLarge hertzOf markOf
-    freshGenerator wrapped drawOf places seek guardedPlace number mended correctionOf dataNumber placeAt bitAt packed indexIn
-    readingOf recordMark
+    freshGenerator wrapped drawOf places seek guardedPlace number mended correctionOf dataNumber placeAt bitAt packed
+    indexIn readingOf recordMark
 all-twelve = tt

@@ -169,8 +169,8 @@ pub record DemandThree : Type 0 where
   pub one-flip : OneFlip
   pub two-reported : TwoReported
   pub two-flips : TwoFlips
-  -- what a correction does to what is read (document 02, K5: "clean, a parity bit hit with its number, a data bit inverted
-  -- with its field and bit"), and what none shows
+  -- what a correction does to what is read (document 02, K5: "clean, a parity bit hit with its number, a data bit
+  -- inverted with its field and bit"), and what none shows
   pub case-of-each : CaseOfEach
   pub one-number-each : OneNumberEach
   pub clean-changes-nothing : CleanChangesNothing

@@ -33,7 +33,8 @@ pub record Eighteen (s : List ℕ) : Type 0 where
 unfoldable pub ReadsBack : Type 0
 ReadsBack =
     (r : Record) (s : List ℕ) → Shaped r → writtenOf r (length s) ≡ Written.Frame
-    → readingOf (frameLeft r s) ≡ record { verdict = Verdict.Read; indices = r; correction = Correction.Clean; mark = 0 }
+    → readingOf (frameLeft r s)
+    ≡ record { verdict = Verdict.Read; indices = r; correction = Correction.Clean; mark = 0 }
 
 -- "A frame that is read writes back to the same bits exactly when its parity was clean, its expansion bit 0 and its
 -- parameters in order", whatever the lent buffer t held.

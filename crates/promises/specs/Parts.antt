@@ -59,8 +59,8 @@ FramesFit = (s : List ℕ) → 18 * length (framesOf s) ≤ length s
 abbrev pub EndCounts : Type 0
 EndCounts = (s : List ℕ) (x : Summary) → judgedOf s ≡ Sound x → x .frames ≡ length (framesOf s)
 
--- the counts are sums over all frame numbers, counted from 1: 1 for a repaired frame, which is one whose correction is a
--- data hit, or for a break, from a fresh state on (Breaks.antt says what a break is)
+-- the counts are sums over all frame numbers, counted from 1: 1 for a repaired frame, which is one whose correction is
+-- a data hit, or for a break, from a fresh state on (Breaks.antt says what a break is)
 abbrev pub RepairsCounted : Type 0
 RepairsCounted =
     (s : List ℕ) (x : Summary) → judgedOf s ≡ Sound x

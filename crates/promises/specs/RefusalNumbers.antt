@@ -144,12 +144,13 @@ RecordingNumbers =
     × (((walkedRefusal (walkedOf s) ≡ k) × (walkedTells (walkedOf s) ≡ t)) ↔ RecordingTable s k t)
 
 -- the C boundary: a result is minus the refusal's number. The reader's, of the bytes of a frame and a buffer for the
--- record; where both have their length it is 16 times the order mark plus the correction number, and what the kind of the
--- correction adds
+-- record; where both have their length it is 16 times the order mark plus the correction number, and what the kind of
+-- the correction adds
 pub data ReadResults (s o : List ℕ) : ℤ → Type 0 where
   c-read-length : ((length s ≡ 18) × (length o ≡ 56) → ⊥) → ReadResults s o (negℤ (pos 1))
   c-read-frame : length s ≡ 18 → length o ≡ 56
-      → ReadResults s o (pos (16 * readingOf s .mark + correctionNumber (readingOf s) + kindOf (readingOf s .correction)))
+      → ReadResults s o
+      (pos (16 * readingOf s .mark + correctionNumber (readingOf s) + kindOf (readingOf s .correction)))
 
 unfoldable pub ReadResultNumbers : Type 0
 ReadResultNumbers = (s o : List ℕ) (z : ℤ) → (readResult s (length o) ≡ z) ↔ ReadResults s o z

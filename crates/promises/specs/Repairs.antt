@@ -56,8 +56,8 @@ unfoldable pub DataHitInvertsOne : Type 0
 DataHitInvertsOne =
     (s : List ℕ) → Eighteen s → (f i : ℕ) → readingOf s .correction ≡ Data f i → OneInverted s f i
 
--- the sixteen corrections, each with its number: clean, four parity bits, and eleven data bits by field and bit. A case is
--- named as document 01 names the guarded bit.
+-- the sixteen corrections, each with its number: clean, four parity bits, and eleven data bits by field and bit. A case
+-- is named as document 01 names the guarded bit.
 pub data Numbered : ℕ → Correction → Type 0 where
   none : Numbered 0 Clean
   HP-0 : Numbered 1 (Parity 1)

@@ -17,8 +17,8 @@ StateRunsOn =
     → frameHeard before (framesOf s) (suc k) ≡ hearingOf (stateThrough before (take k (framesOf s)))
     (getD (framesOf s) k [])
 
--- the answer that has a frame's values has its correction too, that of the frame read by itself, whatever came before it
--- and whether it is refused with 6 or not (document 02, K5)
+-- the answer that has a frame's values has its correction too, that of the frame read by itself, whatever came before
+-- it and whether it is refused with 6 or not (document 02, K5)
 abbrev pub CorrectionPassedOn : Type 0
 CorrectionPassedOn =
     (before : State) (s : List ℕ) (k : ℕ) → k < length (framesOf s)

@@ -10,7 +10,8 @@ use Rattle.gateway.proofs.oatlantern_read_frame.Tie as tie
 
 -- where number and kind have been asked for, `read` was four places before
 small : (c : tie.After-kind-of)
-    → 16 * c .before .before .before .before .read .result .mark + c .before .number-for .result + c .kind-of .result < 672
+    → 16 * c .before .before .before .before .read .result .mark + c .before .number-for .result + c .kind-of .result
+    < 672
 small c =
     rw (c .kind-of .ensures, c .before .number-for .ensures, c .before .before .before .before .read .ensures)
     (reading-small _)
@@ -47,6 +48,6 @@ returns-3 c = wrong-frame _ _ _ (c .before .before .read .ensures) (c .enum-told
 pub oatlantern-read-frame-spec : {M : Type 1} → statement M
 oatlantern-read-frame-spec =
     tie.close
-    (tie.spec (λ c κs. tt) (search needs) (λ c κs. tt) (λ c κs. tt) (λ c κs. tt) mul-result add-result add-result-2 cast-result
-    (search needs)
+    (tie.spec (λ c κs. tt) (search needs) (λ c κs. tt) (λ c κs. tt) (λ c κs. tt) mul-result add-result add-result-2
+    cast-result (search needs)
     returns (search needs) (search needs) returns-2 returns-3)

@@ -1,4 +1,4 @@
--- `lines::frame` meets its contract: the refusal, or the numbers of what was heard, after the correction and its letter.
+-- `lines::frame` meets its contract: after the correction and its letter the refusal, or the numbers of what was heard.
 -- Assumes nothing.
 use native.Mathlib.Omega.{arith}
 use Rattle.lines.proofs.Lines.{said-refused, said-heard}
@@ -9,7 +9,8 @@ returns : tie.Need-returns
 returns c =
     let l = c .before .before .before .before in
     let n = l .before in
-    said-refused (n .before .before .args .said) (l .letter-of .ensures) (n .number-for .ensures) (c .before .before .if1 .taken)
+    said-refused (n .before .before .args .said) (l .letter-of .ensures) (n .number-for .ensures)
+    (c .before .before .if1 .taken)
 
 returns-2 : tie.Need-returns-2
 returns-2 c =

@@ -28,16 +28,16 @@ returns-2 c =
     let l = c .before .before .before in
     let a = l .before .before .before in
     data-found _ _ (l .before .before .if1 .left) (l .loop .inv) (omega arith)
-    (this-bit (a .args .f) (a .args .i) _ (l .before .guarded .ensures) (l .loop .k) (omega arith) (c .before .if2 .taken)
-    (c .if3 .taken))
+    (this-bit (a .args .f) (a .args .i) _ (l .before .guarded .ensures) (l .loop .k) (omega arith)
+    (c .before .if2 .taken) (c .if3 .taken))
 
 loop-again : tie.Need-loop-again Inv-loop μ-loop
 loop-again c =
     let l = c .before .before .before in
     let a = l .before .before .before in
     none-more _ (l .loop .inv)
-    (other-bit (a .args .f) (a .args .i) _ (l .before .guarded .ensures) (l .loop .k) (omega arith) (c .before .if2 .taken)
-    (c .if3 .left))
+    (other-bit (a .args .f) (a .args .i) _ (l .before .guarded .ensures) (l .loop .k) (omega arith)
+    (c .before .if2 .taken) (c .if3 .left))
 
 loop-again-2 : tie.Need-loop-again-2 Inv-loop μ-loop
 loop-again-2 c =
