@@ -87,13 +87,14 @@ def flip():
             ("two guarded places: reported, and the repair inverts a third", (11, 61)),
             ("two that show a parity number: the repair changes no index, and two bits of the voice are wrong", (31, 72)),
             ("three that cancel out: not reported", (21, 51, 11)), ("a place that is not guarded: not reported", (43,))]
-    heads = ["flipped on the air", "the number", "the repair inverts", "then read wrong"]
-    wides, gap, left, top, high = (230, 90, 170, 250), 26, 20, 64, 66
+    heads = ["flipped on the air", "number and letter", "the repair inverts", "then read wrong"]
+    wides, gap, left, top, high = (230, 110, 150, 250), 26, 20, 64, 66
     parts = [text(420, 26, "How a flip travels to an index, and what a repair does with it", 16, weight="bold")]
     for i, (words, flips) in enumerate(rows):
         number, repaired, wrong = travels(flips)
-        inverts = PLACES[repaired[0] - 1] if repaired else "nothing"
-        cells = [", ".join(f"{place} ({PLACES[place - 1]})" for place in flips), str(number), inverts,
+        named = PLACES[repaired[0] - 1] if repaired else None
+        letter, inverts = ("c", "nothing") if named is None else ("p", "nothing in the voice") if kind(named) == "HP" else ("d", named)
+        cells = [", ".join(f"{place} ({PLACES[place - 1]})" for place in flips), f"{number} {letter}", inverts,
                  ", ".join(wrong) if wrong else "nothing"]
         x, y = left, top + i * high
         parts.append(text(left, y + 12, words, 12, "start", "bold"))
@@ -106,7 +107,7 @@ def flip():
                 parts.append(f'<path d="M{x + wides[k] + 2} {y + 33} h{gap - 6} m-6 -4 l6 4 l-6 4" fill="none" stroke="#333"/>')
             x += wides[k] + gap
     y = top + len(rows) * high + 16
-    parts.append(text(left, y, "The number and the bits read wrong depend on the flipped places alone, never on what was said.", 12, "start"))
+    parts.append(text(left, y, "Number, letter and the bits read wrong depend on the flipped places alone, never on what was said.", 12, "start"))
     return drawn(left * 2 + sum(wides) + 3 * gap, y + 20, parts)
 
 
