@@ -239,7 +239,7 @@ cp -a "$root/target/stamp/gateway" "$copy/target/stamp/gateway"
 readme() {
     rm -f "$copy"/target/host/oatlantern-*
     (cd "$copy" && sh -e "$tmp/commands") > "$tmp/log" 2>&1 || return 1
-    grep -x '[0-9 ]*' "$tmp/log" > "$tmp/got"
+    grep -x '[0-9 ]* [cpd]' "$tmp/log" > "$tmp/got"
     cmp "$tmp/wanted" "$tmp/got" && [ -x "$copy/target/installed/bin/oatlantern-list" ]
 }
 readme || fail "the README's lines"

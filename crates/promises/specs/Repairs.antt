@@ -1,5 +1,5 @@
--- What a correction number does to what is read (document 01, "Parity and correction"), and what no number shows. The
--- handbook quotes these; each is about the definitions that the contract of `reader::read` cites.
+-- What a correction does to what is read (document 01, "Parity and correction"; document 02, K5), and what none shows.
+-- The handbook quotes these; each is about the definitions that the contract of `reader::read` cites.
 use mathlib.Core.Path.{_≡_}
 use mathlib.Core.List.{List, [], _∷_}
 use Prim.Native.Nat.{ℕ, _+_, _%_, _<_, _≤_}
