@@ -26,7 +26,7 @@
  * wrong length. The two buffers of one call must not overlap.
  *
  * Every input has an answer. No call fails in any other way than by a refusal,
- * and each one ends: the work is the same few hundred steps whatever the bytes.
+ * and each one ends, after a bounded number of steps whatever the bytes.
  *
  * A refusal writes nothing. When a result is negative, every byte of the buffer
  * that was lent for writing is what it was before the call. The buffer that is
