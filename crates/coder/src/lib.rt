@@ -2,10 +2,9 @@
 use delays::Coded;
 use delays::Pair;
 ghost use mathlib.Core.Path.{_≡_};
-ghost use Prim.Native.Nat.{_-_, _≤_};
-ghost use Rattle.delays.specs.Table.{bytes, rankWith};
+ghost use Rattle.delays.specs.Table.{bytes};
 ghost use Rattle.delays.specs.Codes.{codedOf};
-ghost use Rattle.delays.specs.Steps.{rankIn, codedPair, bothInside};
+ghost use Rattle.delays.specs.Steps.{codedPair, bothInside};
 
 // The printed byte of each rank (3.5.4): down each column over both pages.
 #[rattlefmt::skip]
@@ -65,11 +64,11 @@ pub fn codes(delays: [u32; 4]) -> Coded
 fn coded_pair(first: u32, second: u32) -> Pair
     ensures { λ r. ⌜ r ≡ codedPair first second ⌝ }
 {
-    let before = rank_with(first);
+    let before = delays::rank_with(first);
     if 255 < before {
         return Pair::FirstNotListed;
     }
-    let rank = rank_with(second);
+    let rank = delays::rank_with(second);
     if 255 < rank {
         return Pair::SecondNotListed;
     }
@@ -82,42 +81,6 @@ fn coded_pair(first: u32, second: u32) -> Pair
         return Pair::SecondOutside;
     }
     Pair::Inside(before as u8, step as u8)
-}
-
-// The rank of a delay in twelfths, by the four stretches, or 256 if the list has no such delay.
-fn rank_with(delay: u32) -> u16
-    ensures { λ r. ⌜ r ≡ rankWith delay ⌝ }
-{
-    if delay < 240 {
-        return 256;
-    }
-    if delay < 312 {
-        return rank_in(delay, 240, 4, 0);
-    }
-    if delay < 408 {
-        return rank_in(delay, 312, 3, 18);
-    }
-    if delay < 960 {
-        return rank_in(delay, 408, 4, 50);
-    }
-    if delay < 1776 {
-        return rank_in(delay, 960, 12, 188);
-    }
-    256
-}
-
-// The rank of a delay in the stretch that starts at a delay and a rank and goes on by a step, or 256 if it is between
-// two steps.
-fn rank_in(delay: u32, from: u32, step: u32, first: u32) -> u16
-    requires { ⌜ (from ≤ delay) × (delay - from ≤ 1000) ⌝ }
-    requires { ⌜ (1 ≤ step) × (first ≤ 256) ⌝ }
-    ensures { λ r. ⌜ r ≡ rankIn from step first delay ⌝ }
-{
-    let past = delay - from;
-    if past % step != 0 {
-        return 256;
-    }
-    (first + past / step) as u16
 }
 
 // The codes where both pairs are inside their windows: the printed bytes of the first and third delay's ranks, and the

@@ -6,7 +6,14 @@ use denote.Triple.Clauses.{AtExit}
 use borrow.Fn.Kinds.{Dens, resT, endedOf}
 use Rattle.delays.proofs.base.Kinds as base
 use Rattle.delays.proofs.base.Reads as base-reads
+use Rattle.delays.proofs.rank_with.Kinds as rank-with
+use Rattle.delays.proofs.rank_with.Reads as rank-with-reads
 
 pub base-determined : (κs : Lfts 0) (a : Dens κs base.ps) (r₁ r₂ : resT base.r κs .Denot)
     (x₁ x₂ : AtExit (endedOf 0 base.ps base.r) κs) → base-reads.Post κs a r₁ x₁ → base-reads.Post κs a r₂ x₂ → r₁ ≡ r₂
 base-determined κs a r₁ r₂ x₁ x₂ p q = p ∙ sym q
+
+pub rank-with-determined : (κs : Lfts 0) (a : Dens κs rank-with.ps) (r₁ r₂ : resT rank-with.r κs .Denot)
+    (x₁ x₂ : AtExit (endedOf 0 rank-with.ps rank-with.r) κs)
+    → rank-with-reads.Post κs a r₁ x₁ → rank-with-reads.Post κs a r₂ x₂ → r₁ ≡ r₂
+rank-with-determined κs a r₁ r₂ x₁ x₂ p q = p ∙ sym q

@@ -2,7 +2,10 @@
 // (3.5.4), and the window of 64 ranks in which subframes 2 and 4 code theirs (3.5.5).
 // `coder` answers the codes of delays, `meanings` the delays of codes.
 ghost use mathlib.Core.Path.{_≡_};
+ghost use Prim.Native.Nat.{_-_, _≤_};
+ghost use Rattle.delays.specs.Table.{rankWith};
 ghost use Rattle.delays.specs.Codes.{baseOf};
+ghost use Rattle.delays.specs.Steps.{rankIn};
 
 // The lowest rank of the window after a rank.
 pub fn base(rank: u16) -> u16
@@ -15,6 +18,42 @@ pub fn base(rank: u16) -> u16
         return 192;
     }
     rank - 31
+}
+
+// The rank of a delay in twelfths, by the four stretches, or 256 if the list has no such delay.
+pub fn rank_with(delay: u32) -> u16
+    ensures { λ r. ⌜ r ≡ rankWith delay ⌝ }
+{
+    if delay < 240 {
+        return 256;
+    }
+    if delay < 312 {
+        return rank_in(delay, 240, 4, 0);
+    }
+    if delay < 408 {
+        return rank_in(delay, 312, 3, 18);
+    }
+    if delay < 960 {
+        return rank_in(delay, 408, 4, 50);
+    }
+    if delay < 1776 {
+        return rank_in(delay, 960, 12, 188);
+    }
+    256
+}
+
+// The rank of a delay in the stretch that starts at a delay and a rank and goes on by a step, or 256 if it is between
+// two steps.
+fn rank_in(delay: u32, from: u32, step: u32, first: u32) -> u16
+    requires { ⌜ (from ≤ delay) × (delay - from ≤ 1000) ⌝ }
+    requires { ⌜ (1 ≤ step) × (first ≤ 256) ⌝ }
+    ensures { λ r. ⌜ r ≡ rankIn from step first delay ⌝ }
+{
+    let past = delay - from;
+    if past % step != 0 {
+        return 256;
+    }
+    (first + past / step) as u16
 }
 
 // What four codes mean: the delays in twelfths, or the first subframe whose code is too large.

@@ -1,10 +1,10 @@
--- `coder::rank_in` meets its contract: a delay on a step of the stretch, and one between two.
+-- `delays::rank_in` meets its contract: a delay on a step of the stretch, and one between two.
 -- Assumes nothing.
 use Prim.Native.Nat.{_+_, _-_, _/_, _≤_}
 use native.Mathlib.Omega.{arith}
 use Rattle.delays.proofs.Search.{between, on-step, steps-small}
-use Rattle.coder.proofs.rank_in.Statement.{statement}
-use Rattle.coder.proofs.rank_in.Tie as tie
+use Rattle.delays.proofs.rank_in.Statement.{statement}
+use Rattle.delays.proofs.rank_in.Tie as tie
 
 returns : tie.Need-returns
 returns c = between _ _ _ _ (c .if1 .taken)

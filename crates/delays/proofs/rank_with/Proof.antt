@@ -1,10 +1,10 @@
--- `coder::rank_with` meets its contract, a stretch at a time.
+-- `delays::rank_with` meets its contract, a stretch at a time.
 -- Assumes nothing.
 use mathlib.Core.Path.{_∙_}
 use native.Mathlib.Omega.{arith}
 use Rattle.delays.proofs.Search.{too-short, first-thirds, quarters, second-thirds, wholes, too-long}
-use Rattle.coder.proofs.rank_with.Statement.{statement}
-use Rattle.coder.proofs.rank_with.Tie as tie
+use Rattle.delays.proofs.rank_with.Statement.{statement}
+use Rattle.delays.proofs.rank_with.Tie as tie
 
 returns : tie.Need-returns
 returns c = too-short _ (c .if1 .taken)
