@@ -1,10 +1,11 @@
 #!/usr/bin/env python3
-"""Holds a listing program to the independent one, and a hearing and a salvaging program beside it, over many recordings, sound and damaged.
+"""Holds a listing program to the independent one, and a hearing, a salvaging and an exciting program beside it, over many recordings, sound
+and damaged.
 
-    listings.py OUTSIDE COUNT SEED LIST [HEAR [SALVAGE]]
+    listings.py OUTSIDE COUNT SEED LIST [HEAR [SALVAGE [EXCITE]]]
 
-OUTSIDE is the independent program, which writes the recordings with what is to be printed of each. LIST, HEAR and SALVAGE are commands,
-each one word of the shell's (as './run target/bin/list'). Each recording is read from a file, and some small ones come through a pipe in
+OUTSIDE is the independent program, which writes the recordings with what is to be printed of each. LIST, HEAR, SALVAGE and EXCITE are
+commands, each one word of the shell's (as './run target/bin/list'). Each recording is read from a file, and some small ones come through a pipe in
 pieces. A program has to print what is expected, say on standard error the changes, if it is SALVAGE, or nothing, and end with status 0.
 SALVAGE is held over cuts and uploads too. Then each is run with an argument, and on an input that cannot be read: it prints nothing and
 says one line. The last line says how many cases were compared.
@@ -19,7 +20,7 @@ from pathlib import Path
 
 # each program with the suffix of what is printed, that of what is said on standard error if there is any, and its usage after its name
 PROGRAMS = [("list", ".list", None, "<recording"), ("hear", ".hear", None, "<recording"),
-            ("salvage", ".salvaged", ".changes", "<recording >salvaged")]
+            ("salvage", ".salvaged", ".changes", "<recording >salvaged"), ("excite", ".excite", None, "<recording")]
 UPLOADS = 150
 
 
@@ -100,6 +101,6 @@ def main(outside, count, seed, *programs):
 
 
 if __name__ == "__main__":
-    if not 5 <= len(sys.argv) <= 7:
+    if not 5 <= len(sys.argv) <= 8:
         sys.exit(__doc__)
     sys.exit(main(*sys.argv[1:]))

@@ -1,11 +1,11 @@
 #!/usr/bin/env python3
 """Makes the recordings of this folder and the calls on a tally book, and what is to be said of each.
 
-    make.py PROGRAM            writes NAME.rec, NAME.list, NAME.hear and NAME.changes, and NAME.salvaged where something is mended;
-                               and of calls NAME.calls and NAME.said
+    make.py PROGRAM            writes NAME.rec, NAME.list, NAME.hear and NAME.changes, NAME.salvaged where something is mended, and of
+                               some NAME.excite; and of calls NAME.calls and NAME.said
     make.py --check PROGRAM    compares them with what is stored
 
-PROGRAM is the independent program (outside/target/release/outside), called with the word `list`, `hear`, `salvage` or `sheet`. The bytes
+PROGRAM is the independent program (outside/target/release/outside), called with the word `list`, `hear`, `salvage`, `excite` or `sheet`. The bytes
 are laid out here, block by block and place by place, by the tables of outside/tables; README.md says what is wrong with each recording, and
 outside/CASES.md how a call is laid out.
 """
@@ -75,8 +75,17 @@ ZERO, HIT = bytes(18), only(104, 144)
 HEAD, VOICE, END = head(7, 1), voice(ZERO, HIT), end(2)
 
 # Six frames as a radio holds them, each with its own delays; SY goes 0, 1, 0, 1, 0, 1.
-SPOKEN = [frame((3, 3, 3, 3, 3, 3, 3, 3, 3, 3), (110 + 2 * k, 111 + 2 * k, 112 + 2 * k, 111 + 2 * k),
+LEVEL = (3,) * 10
+SPOKEN = [frame(LEVEL, (110 + 2 * k, 111 + 2 * k, 112 + 2 * k, 111 + 2 * k),
                 ((20, 18), (21, 18), (20, 17), (19, 17)), (40 + k, 130 + k, 255 - k, 7 * k), k % 2) for k in range(6)]
+
+
+# Four frames for the listening box. The ranks of 54, 55, 55, 54 samples; of 54, 54 and a third, 54, 53; a frame that is refused with 6; and of
+# 20, 21, 22, 23 samples, as loud as the gains go.
+LISTENING = [frame(LEVEL, (110, 113, 113, 110), ((24, 22), (25, 9), (24, 23), (26, 8)), (300, 41, 222, 7), 0),
+             frame(LEVEL, (110, 111, 110, 107), ((26, 24), (27, 7), (28, 24), (27, 6)), (301, 42, 223, 8), 1),
+             flipped(frame(LEVEL, (110, 113, 113, 110), ((26, 24), (27, 7), (28, 24), (27, 6)), (302, 43, 224, 9), 0), 104, 21),
+             frame(LEVEL, (0, 3, 6, 9), ((31, 31), (31, 0), (31, 31), (31, 0)), (303, 44, 225, 10), 1)]
 
 
 def told(*frames):
@@ -109,6 +118,7 @@ RECORDINGS = {
     "lost-after-refused": told(*SPOKEN[:2], flipped(SPOKEN[2], 104, 21), *SPOKEN[4:]),
     "sent": hit(f2=(61,), f5=(PLACES.index("PD(1)-3") + 1,)),
     "sent-again": hit(f4=(11, 61)),
+    "listening": head(12, 346) + voice(*LISTENING[:2]) + voice(*LISTENING[2:]) + end(4),
     # refused
     "empty": b"",
     "cut": (HEAD + VOICE + END)[:59],
@@ -161,14 +171,19 @@ def histories(salvaged):
     }
 
 
-def said_of(program, recording):
+# those whose excitation is kept: every kind of line, no delay whole, and a refused recording
+EXCITED = ["listening", "sound", "cut"]
+
+
+def said_of(program, name, recording):
     """What the program says of a recording: the content of each file beside it, by suffix."""
     def run(word, **more):
         return subprocess.run([program, word], input=recording, stdout=subprocess.PIPE, check=True, **more)
     salvaged = run("salvage", stderr=subprocess.PIPE)
     made = {".list": run("list").stdout, ".hear": run("hear").stdout, ".changes": salvaged.stderr}
     mended = salvaged.stderr and not salvaged.stderr.startswith(b"refused ")
-    return made | ({".salvaged": salvaged.stdout} if mended else {})
+    excited = {".excite": run("excite").stdout} if name in EXCITED else {}
+    return made | excited | ({".salvaged": salvaged.stdout} if mended else {})
 
 
 def main():
@@ -176,7 +191,7 @@ def main():
     if len(sys.argv) != 2 + check or program.startswith("--"):
         sys.exit(__doc__)
     made = {name + suffix: content for name, recording in RECORDINGS.items()
-            for suffix, content in ({".rec": recording} | said_of(program, recording)).items()}
+            for suffix, content in ({".rec": recording} | said_of(program, name, recording)).items()}
     for name, calls in histories(made["dropped-later.salvaged"]).items():
         said = subprocess.run([program, "sheet"], input=calls, stdout=subprocess.PIPE, check=True).stdout
         made |= {name + ".calls": calls, name + ".said": said}

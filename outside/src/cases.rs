@@ -2,7 +2,8 @@
 //! damaged in every way the documents name, alone and combined. Everything comes from a seeded
 //! generator (splitmix64), so the same seed always gives the same cases.
 
-use crate::delays::base;
+use crate::delays::{self, base};
+use crate::excitation::Subframe;
 use crate::frame::{self, Record, FRAME_LENGTH};
 use crate::lsp::State;
 use crate::recording::{self, END, HEAD, HEADER_LENGTH, VOICE};
@@ -369,6 +370,12 @@ pub fn edges() -> Vec<Edge> {
     edges.breaks();
     edges.refused_and_breaks();
     edges.hits();
+    edges.whole_delays();
+    edges.gains();
+    edges.loud();
+    edges.refused_subframes();
+    edges.refused_frames();
+    edges.hit_subframes();
     edges.0
 }
 
@@ -1454,11 +1461,183 @@ impl Edges {
         }
     }
 
+    /// Every whole delay: one after the other up and down, in each subframe, and in any order.
+    fn whole_delays(&mut self) {
+        let mut g = Generator::new(41);
+        let mut of = |samples: &u32| any_subframe(&mut g, 12 * samples);
+        let rising: Vec<u32> = (20..=147).collect();
+        let falling: Vec<u32> = (20..=147).rev().collect();
+        let frames = sent(rising.iter().map(&mut of));
+        self.excited("every whole delay, rising", &frames, &[32]);
+        let frames = sent(falling.iter().map(&mut of));
+        let name = "every whole delay, falling, over voices";
+        self.excited(name, &frames, &[1, 3, 8, 20]);
+        let frames = sent(rising.iter().flat_map(|samples| [samples; 4]).map(&mut of));
+        let name = "every whole delay in every subframe";
+        self.excited(name, &frames, &[64, 64]);
+        let frames = sent(any_whole(&mut g, 120));
+        let name = "whole delays in any order, each frame in its own voice";
+        self.excited(name, &frames, &[1; 30]);
+        self.excited("one frame, no subframe refused", &frames[..1], &[1]);
+    }
+
+    /// Every PG, every CG, each with each, and codes from the first to the last.
+    fn gains(&mut self) {
+        let mut g = Generator::new(42);
+        let mut frames = |count: usize, change: &dyn Fn(usize, &mut Subframe)| {
+            let mut all = any_whole(&mut g, count);
+            for (n, subframe) in all.iter_mut().enumerate() {
+                change(n, subframe);
+            }
+            sent(all)
+        };
+        let every_pg = frames(32, &|n, subframe| subframe.pg = n as u16);
+        let every_cg = frames(32, &|n, subframe| subframe.cg = n as u16);
+        // 365 and 1,024 have no divisor in common.
+        let both = frames(1024, &|n, subframe| {
+            let n = (365 * n % 1024) as u16;
+            (subframe.pg, subframe.cg) = (n / 32, n % 32);
+        });
+        let codes = frames(64, &|n, subframe| {
+            (subframe.pg, subframe.ci) = (6, (n * 511 / 63) as u16);
+        });
+        self.excited("every PG", &every_pg, &[8]);
+        self.excited("every CG", &every_cg, &[3, 5]);
+        let name = "every PG with every CG, the first half";
+        self.excited(name, &both[..128], &[100, 28]);
+        let name = "every PG with every CG, the second half";
+        self.excited(name, &both[128..], &[28, 100]);
+        self.excited("codes from the first to the last", &codes, &[16]);
+    }
+
+    /// The loudest gains until elements are held at both ends, and what comes after them.
+    fn loud(&mut self) {
+        let mut g = Generator::new(43);
+        let same = |samples: u32, pg, ci, cg| Subframe {
+            delay: 12 * samples,
+            pg,
+            ci,
+            cg,
+        };
+        for samples in [20, 147] {
+            let frames = sent([same(samples, 31, 410, 31); 120]);
+            let name = format!("the loudest gains, delay {samples}");
+            self.excited(&name, &frames, &[20, 10]);
+        }
+        let mut loudest = any_whole(&mut g, 200);
+        for (n, subframe) in loudest.iter_mut().enumerate() {
+            (subframe.pg, subframe.cg) = (31, [0, 31][n / 3 % 2]);
+        }
+        let name = "the loudest gains, whole delays in any order";
+        self.excited(name, &sent(loudest.clone()), &[50]);
+        let mut after = any_whole(&mut g, 160);
+        for subframe in &mut after {
+            (subframe.pg, subframe.cg) = (g.one_of(&[7, 7, 13]), g.one_of(&[15, 16]));
+        }
+        let frames = sent([&loudest[..80], &after].concat());
+        self.excited("loud, then dying out", &frames, &[20, 40]);
+        for subframe in &mut after {
+            (subframe.pg, subframe.cg) = (0, g.one_of(&[0, 31]));
+        }
+        let frames = sent([&loudest[..80], &after[..80]].concat());
+        self.excited("loud, then the least PG", &frames, &[39, 1]);
+    }
+
+    /// Subframes whose delay is not whole: one or several of a frame, and all four.
+    fn refused_subframes(&mut self) {
+        let mut g = Generator::new(44);
+        // Of frame k those subframes whose bit of k is set are refused.
+        let patterns: Vec<Subframe> = (0..64)
+            .map(|n| {
+                let refused = (n / 4) >> (n % 4) & 1 == 1;
+                let whole = [624, 636, 648][n % 3];
+                any_subframe(&mut g, if refused { 644 } else { whole })
+            })
+            .collect();
+        let frames = sent(patterns);
+        self.excited("each pattern of refused subframes", &frames, &[16]);
+        let name = "each pattern of refused subframes, each in its own voice";
+        self.excited(name, &frames, &[1; 16]);
+        let name = "one frame, all four subframes refused";
+        self.excited(name, &frames[15..], &[1]);
+        let all: Vec<Subframe> = [244, 248, 315, 318, 321, 412, 416, 956]
+            .into_iter()
+            .flat_map(|delay| [delay; 4])
+            .map(|delay| any_subframe(&mut g, delay))
+            .collect();
+        let name = "all four subframes of every frame refused";
+        self.excited(name, &sent(all), &[5, 3]);
+    }
+
+    /// Frames refused with 6 first, between and last, among subframes that are refused and that are
+    /// not.
+    fn refused_frames(&mut self) {
+        let mut g = Generator::new(45);
+        let whole = sent(any_whole(&mut g, 32));
+        let listed: Vec<Subframe> = (0..32)
+            .map(|_| {
+                let delay = 600 + 4 * g.below(16) as u32;
+                any_subframe(&mut g, delay)
+            })
+            .collect();
+        let listed = sent(listed);
+        for (name, frames, refused, counts) in [
+            ("frames refused first", &whole, &[0, 1][..], &[8][..]),
+            ("frames refused between", &whole, &[2, 3, 5], &[3, 5]),
+            ("frames refused last", &whole, &[6, 7], &[7, 1]),
+            (
+                "frames refused first, between and last",
+                &whole,
+                &[0, 3, 4, 7],
+                &[1, 3, 1, 3],
+            ),
+            (
+                "frames and subframes refused",
+                &listed,
+                &[0, 3, 4, 7],
+                &[2, 2, 1, 3],
+            ),
+        ] {
+            let mut frames = frames.clone();
+            for &k in refused {
+                frames[k] = expanded(&frames[k]);
+            }
+            self.excited(name, &frames, counts);
+        }
+        let refused: Vec<Frame> = whole.iter().map(expanded).collect();
+        let name = "every frame refused, no subframe would be";
+        self.excited(name, &refused, &[4, 4]);
+    }
+
+    /// Frames hit at the guarded bits of PD and PG and at SP, put right and not.
+    fn hit_subframes(&mut self) {
+        let mut g = Generator::new(46);
+        let frames = sent(any_whole(&mut g, 64));
+        let one = |n: usize| ONE_HIT[n];
+        let put_right = [3, 5, 6, 10, 11, 12, 5, 12].map(one);
+        let name = "PD bits hit and put right";
+        self.hit(name, &frames, &put_right, &[3, 5]);
+        let put_right = [7, 9, 13, 14, 15, 1, 2, 4, 8].map(one);
+        let name = "PG bits, SP and parity bits hit and put right";
+        self.hit(name, &frames, &put_right, &[9]);
+        self.hit("hits not put right", &frames, &FEW_HITS, &[8, 8]);
+    }
+
+    /// A sound recording for the excitation, of frames in voice blocks of so many.
+    fn excited(&mut self, name: &str, frames: &[Frame], counts: &[usize]) {
+        self.in_voices(12, name, frames, counts);
+    }
+
     /// A sound recording of frames as sent, each hit, in voice blocks of so many.
     fn hit(&mut self, name: &str, sent: &[Frame], hits: Hits, counts: &[usize]) {
         let hit = |(frame, numbers): (&Frame, &&[usize])| hit_at(*frame, numbers);
         let frames: Vec<Frame> = sent.iter().zip(hits).map(hit).collect();
-        let mut rest = &frames[..];
+        self.in_voices(11, name, &frames, counts);
+    }
+
+    /// A sound recording of a unit, of frames in voice blocks of so many.
+    fn in_voices(&mut self, unit: u32, name: &str, frames: &[Frame], counts: &[usize]) {
+        let mut rest = frames;
         let mut voice = Vec::new();
         for &count in counts {
             let (block, after) = rest.split_at(count);
@@ -1466,7 +1645,7 @@ impl Edges {
             rest = after;
         }
         assert!(rest.is_empty(), "{name}: {} frames left", rest.len());
-        self.sound_one(name, sound(11, self.0.len() as u32, &voice));
+        self.sound_one(name, sound(unit, self.0.len() as u32, &voice));
     }
 
     /// A sound recording of the voice blocks told.
@@ -1529,6 +1708,52 @@ pub fn hit_at(mut frame: Frame, numbers: &[usize]) -> Frame {
         frame::flip(&mut frame, GUARDED[number - 1]);
     }
     frame
+}
+
+/// A subframe of a delay, with any indices else.
+fn any_subframe(g: &mut Generator, delay: u32) -> Subframe {
+    Subframe {
+        delay,
+        pg: g.below(32) as u16,
+        ci: g.below(512) as u16,
+        cg: g.below(32) as u16,
+    }
+}
+
+/// So many subframes of whole delays that can be sent one after the other.
+fn any_whole(g: &mut Generator, count: usize) -> Vec<Subframe> {
+    let mut before = 0;
+    let mut next = |n: usize| {
+        // The second and the fourth of a frame are within the window of the one just before.
+        let ranks = match n % 2 {
+            0 => 0..256,
+            _ => usize::from(base(before))..usize::from(base(before)) + 64,
+        };
+        let whole: Vec<usize> = ranks
+            .filter(|&rank| TWELFTHS[rank].is_multiple_of(12))
+            .collect();
+        let rank = g.one_of(&whole);
+        before = rank as u8;
+        any_subframe(g, TWELFTHS[rank].into())
+    };
+    (0..count).map(&mut next).collect()
+}
+
+/// Frames of subframes, four each, with SY 0, 1, 0 and so on.
+fn sent(subframes: impl IntoIterator<Item = Subframe>) -> Vec<Frame> {
+    let subframes: Vec<Subframe> = subframes.into_iter().collect();
+    let mut frames = Vec::new();
+    for four in subframes.chunks_exact(4) {
+        let mut record = Record::ZERO;
+        let delays = std::array::from_fn(|n| four[n].delay);
+        let pd = delays::codes(delays).expect("delays that can be sent");
+        for (n, &Subframe { pg, ci, cg, .. }) in four.iter().enumerate() {
+            record.fields[10 + 4 * n..][..4].copy_from_slice(&[pd[n], pg, ci, cg]);
+        }
+        record.fields[27] = (frames.len() % 2) as u16;
+        frames.push(frame::lay(&record));
+    }
+    frames
 }
 
 /// A frame that is sent with SP 1.

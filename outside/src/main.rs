@@ -1,9 +1,9 @@
-//! The command line over the library: tables, numbers, listings, hearings, salvaging, the tally book
-//! and cases.
+//! The command line over the library: tables, numbers, listings, hearings, excitations, salvaging, the
+//! tally book and cases.
 
 use outside::{
-    cases, exchange, hear, histories, leaves, lent, listing, recording, salvage, sheet, tables,
-    uploads,
+    cases, exchange, excite, hear, histories, leaves, lent, listing, recording, salvage, sheet,
+    subframes, tables, uploads,
 };
 use std::fs;
 use std::io::{self, Read, Write};
@@ -11,10 +11,13 @@ use std::path::{Path, PathBuf};
 use std::process::ExitCode;
 
 const USAGE: &str =
-    "usage: outside tables | sample | list | hear | salvage | lent | lent-case | sheet | sheet-cases | histories DIR N SEED | edges | recording SEED N | recordings DIR N SEED | cuts DIR | uploads DIR N SEED | leaves | leaf-cases [KIND MORE SEED] | windows DIR | exchange | exchange-cases [all]";
+    "usage: outside tables | sample | list | hear | excite | salvage | lent | lent-case | sheet | sheet-cases | histories DIR N SEED | edges | recording SEED N | recordings DIR N SEED | cuts DIR | uploads DIR N SEED | leaves | leaf-cases [KIND MORE SEED] | windows DIR | exchange | exchange-cases [all] | subframes | subframe-cases [all]";
 
 /// Recordings longer than this get no `.hear` file.
 const LONGEST_HEARD: usize = 20_000;
+
+/// Recordings longer than this get no `.excite` file.
+const LONGEST_EXCITED: usize = 4_000;
 
 fn main() -> ExitCode {
     let arguments: Vec<String> = std::env::args().skip(1).collect();
@@ -30,10 +33,14 @@ fn main() -> ExitCode {
         ["exchange"] => all_input().and_then(|cases| print(&exchange::answers(&cases))),
         ["exchange-cases"] => print(&exchange::stored()),
         ["exchange-cases", "all"] => print(&exchange::cases()),
+        ["subframes"] => all_input().and_then(|cases| print(&subframes::answers(&cases))),
+        ["subframe-cases"] => print(&subframes::stored()),
+        ["subframe-cases", "all"] => print(&subframes::cases()),
         ["windows", folder] => windows(Path::new(folder)),
         ["sample"] => print(&cases::sample()),
         ["list"] => input().and_then(|recording| print(&listing::list(&recording))),
         ["hear"] => input().and_then(|recording| print(&hear::hear(&recording))),
+        ["excite"] => input().and_then(|recording| print(&excite::excite(&recording))),
         ["salvage"] => input().and_then(|recording| print_salvaged(&recording)),
         ["lent"] => first(lent::LONGEST_CASE).and_then(|case| print(&lent::answer(&case))),
         ["lent-case"] => print(&lent::case()),
@@ -166,8 +173,8 @@ fn histories(folder: &Path, count: usize, seed: u64) -> io::Result<()> {
     Ok(())
 }
 
-/// Writes recordings with their listings, what is heard in them and what is salvaged of them: the
-/// edges first.
+/// Writes recordings with their listings, what is heard in them, their excitation and what is salvaged
+/// of them: the edges first.
 fn recordings(folder: &Path, count: usize, seed: u64) -> io::Result<()> {
     fs::create_dir_all(folder)?;
     let mut edges = cases::edges().into_iter();
@@ -180,6 +187,9 @@ fn recordings(folder: &Path, count: usize, seed: u64) -> io::Result<()> {
         fs::write(file(folder, n, "list"), listing::list(&bytes))?;
         if bytes.len() <= LONGEST_HEARD {
             fs::write(file(folder, n, "hear"), hear::hear(&bytes))?;
+        }
+        if bytes.len() <= LONGEST_EXCITED {
+            fs::write(file(folder, n, "excite"), excite::excite(&bytes))?;
         }
     }
     Ok(())

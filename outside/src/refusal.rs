@@ -34,6 +34,9 @@ impl Refusal {
     /// Refusal 2 of an index that stands alone.
     pub const LONE_INDEX: Refusal = Refusal::new(2, 0);
 
+    /// Refusal 4 of a delay that stands alone: it is not in the list.
+    pub const NOT_LISTED: Refusal = Refusal::new(4, 0);
+
     /// Refusal 6: the expansion bit is set.
     pub const EXPANSION: Refusal = Refusal::new(6, 0);
 
@@ -42,4 +45,7 @@ impl Refusal {
 
     /// Refusal 14: the book is full and the key is new.
     pub const BOOK_FULL: Refusal = Refusal::new(14, 0);
+
+    /// Refusal 15: the delay is in the list but is no whole number of samples.
+    pub const NOT_WHOLE: Refusal = Refusal::new(15, 0);
 }

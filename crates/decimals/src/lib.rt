@@ -4,7 +4,7 @@ ghost use mathlib.Core.Path.{_≡_};
 ghost use lib.ListN.{length};
 ghost use Rattle.text.specs.Laid.{laid, after};
 ghost use Rattle.text.specs.Decimal.{decimal};
-ghost use Rattle.text.specs.Signed.{signedDecimal, raisedOf};
+ghost use Rattle.text.specs.Signed.{signedDecimal, raisedOf, spaced};
 
 // Lays a number in decimal: its digits are counted, those with no room passed over, and the others stored from the
 // last.
@@ -45,6 +45,22 @@ pub fn put_signed(out: &mut [u8], at: usize, x: i32) -> usize
     }
     let size = up - 2147483648;
     put_number(out, at, size)
+}
+
+// Lays signed numbers in a row, a space before each.
+pub fn put_list(out: &mut [u8], at: usize, xs: &[i32]) -> usize
+    ensures { λ r. ⌜ r ≡ after (now (out .entry)) at (spaced (now (xs .entry))) ⌝ }
+    ensures { λ _. ⌜ now (out .exit) ≡ laid (now (out .entry)) at (spaced (now (xs .entry))) ⌝ }
+{
+    let mut end = text::least(at, out.len());
+    let mut i = 0;
+    while i < xs.len() {
+        let x = xs[i];
+        let next = text::put_byte(out, end, b' ');
+        end = put_signed(out, next, x);
+        i += 1;
+    }
+    end
 }
 
 // How far a signed number is above the least one.

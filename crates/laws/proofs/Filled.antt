@@ -1,6 +1,6 @@
 -- A loop that fills a list from the front, one place a turn: the invariant `Filled`, how it starts, goes on and ends.
 -- Assumes nothing.
-use mathlib.Core.Path.{_≡_, _∙_, sym, refl, subst}
+use mathlib.Core.Path.{_≡_, _∙_, sym, refl, ap, subst}
 use mathlib.Core.List.{List}
 use Prim.Native.Nat.{ℕ, _+_, _<_, _≤_}
 use native.Mathlib.Omega.{arith}
@@ -64,3 +64,27 @@ module _ {A : Type 0} (d : A) (part : List A) where
   -- after the last turn the two lists are one
   pub copied-all : {k : ℕ} {out : List A} → Copied k out → length part ≤ k → out ≡ part
   copied-all {k} {out} p h = filled-done _ _ _ out h p ∙ own-entries d part (length part) refl
+
+-- a loop that changes each element where it stands: the first k are changed, the others as they were
+pub record Changed {A : Type 0} (d : A) (g : ℕ → A → A) (o : List A) (k : ℕ) (l : List A) : Type 0 where
+  pub done : Filled d (λ (m : ℕ). g m (getD o m d)) (length o) k l
+  pub left : (m : ℕ) → k ≤ m → getD l m d ≡ getD o m d
+
+module _ {A : Type 0} (d : A) (g : ℕ → A → A) (o : List A) where
+  -- before the first turn none is
+  pub changed-none : Changed d g o 0 o
+  changed-none = record { done = filled-none _ _ _ o refl; left = λ m h. refl }
+
+  -- storing at place k what becomes of the element there changes one more
+  pub changed-more : {k : ℕ} {l : List A} (v : A) → Changed d g o k l → k < length o → v ≡ g k (getD l k d)
+      → Changed d g o (k + 1) (set l k v)
+  changed-more {k} {l} v p h e =
+      record {
+        done = filled-more _ _ _ k l v (p .done) h (e ∙ ap (g k) (p .left k (omega arith)));
+        left = λ m q. getD-set-other l k m v d (λ w. omega arith) ∙ p .left m (omega arith);
+      }
+
+  -- after the last turn all are
+  pub changed-all : {k : ℕ} {l : List A} → Changed d g o k l → length o ≤ k
+      → l ≡ tabulate (λ m. g m (getD o m d)) (length o)
+  changed-all {k} {l} p h = filled-done _ _ _ l h (p .done)

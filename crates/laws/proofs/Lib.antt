@@ -9,6 +9,7 @@ pub mod Placed
 pub mod Every
 pub mod Signed
 pub mod Held
+pub mod Sizes
 pub mod Place
 pub mod Joined
 pub mod Turns

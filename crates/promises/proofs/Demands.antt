@@ -1,11 +1,15 @@
--- Every statement under the three demands, of the salvage tool, of the tally book and of sync breaks has its proof.
+-- Every statement under the three demands, of the salvage tool, of the tally book, of sync breaks and of the excitation
+-- has its proof.
 -- Assumes nothing.
 use Rattle.listing.proofs.Laws as listing
 use Rattle.listing.proofs.Short as short
 use Rattle.salvage.proofs.Laws as salvage
 use Rattle.changes.proofs.Laws as changes
 use Rattle.tally.proofs.Laws as tally
+use Rattle.mixing.proofs.Laws as mixing
+use Rattle.excitation.proofs.Laws as excitation
 use Rattle.promises.specs.Demands.{DemandOne, DemandTwo, DemandThree, SalvageTool, TallyBook, SyncBreaks}
+use Rattle.promises.specs.Demands.{ListeningBox}
 use Rattle.promises.proofs.Frames as frames
 use Rattle.promises.proofs.Functions as functions
 use Rattle.promises.proofs.Worked as worked
@@ -20,6 +24,7 @@ use Rattle.promises.proofs.Parts as parts
 use Rattle.promises.proofs.Running as running
 use Rattle.promises.proofs.Breaks as breaks
 use Rattle.promises.proofs.Tally as salvaged
+use Rattle.promises.proofs.Excitation as exciting
 
 pub demand-one : DemandOne
 demand-one =
@@ -64,6 +69,9 @@ demand-one =
       tally-refuses = tally.tally-refuses;
       recording-first = tally.recording-first;
       tally-stands = tally.tally-stands;
+      excitation-refuses = exciting.excitation-refuses;
+      excitation-numbers = exciting.excitation-numbers;
+      sixty-or-none = excitation.sixty-or-none;
     }
 
 pub demand-two : DemandTwo
@@ -183,4 +191,20 @@ sync-breaks =
       last-lost = breaks.last-lost;
       two-lost = breaks.two-lost;
       many-lost = breaks.many-lost;
+    }
+
+pub listening-box : ListeningBox
+listening-box =
+    record {
+      rounded-once = mixing.rounded-once;
+      held-at-the-ends = mixing.held-at-the-ends;
+      element-is = mixing.element-is;
+      code-alone = mixing.code-alone;
+      nothing-overflows = mixing.nothing-overflows;
+      elements-are = excitation.elements-are;
+      within-register = excitation.within-register;
+      elements-within = excitation.elements-within;
+      silent-is-code = excitation.silent-is-code;
+      by-indices-alone = excitation.by-indices-alone;
+      register-moves = excitation.register-moves;
     }

@@ -12,4 +12,5 @@ pub mod Breaks
 pub mod Made
 pub mod RefusalNumbers
 pub mod Tally
+pub mod Excitation
 pub mod Demands

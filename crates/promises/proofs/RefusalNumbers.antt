@@ -72,11 +72,11 @@ use Rattle.promises.proofs.Boundary.{read-result-is, result-is}
 use Rattle.promises.proofs.Rule.{refused-exactly, sound-exactly, walked-judged}
 
 -- a row at a number and what is told, from the row at those of the answer
-at-row : (row : ℕ → List ℕ → Type 0) {m k : ℕ} {u t : List ℕ} → row m u → (m ≡ k) × (u ≡ t) → row k t
+pub at-row : (row : ℕ → List ℕ → Type 0) {m k : ℕ} {u t : List ℕ} → row m u → (m ≡ k) × (u ≡ t) → row k t
 at-row row {m} {k} {u} {t} p (e, f) = subst (row k) f (subst (λ (x : ℕ). row x u) e p)
 
 -- the number and what is told, from the answer
-told : {A : Type 0} (number : A → ℕ) (tells : A → List ℕ) {x a : A} → x ≡ a → (number x ≡ number a)
+pub told : {A : Type 0} (number : A → ℕ) (tells : A → List ℕ) {x a : A} → x ≡ a → (number x ≡ number a)
     × (tells x ≡ tells a)
 told number tells e = (ap number e, ap tells e)
 

@@ -343,26 +343,26 @@ unfolding MeaningRefuses
 meaning-refuses a b c d m = (λ e. subst (MeaningGives a b c d) e (meaning-gives a b c d), meaning-only a b c d m)
 
 -- delays: the tests of the definition, in the words of the conditions
-listed-yes : (delay : ℕ) → listed delay ≡ true → Listed delay
+pub listed-yes : (delay : ℕ) → listed delay ≡ true → Listed delay
 listed-yes delay e =
     let h : rankWith delay < 256 = ltb-true (rankWith delay) 256 e in
     (rankWith delay, h, twelfths-rank delay h)
 
 -- a delay that is the twelfths of some rank passes the test
-listed-test : (delay : ℕ) → Listed delay → listed delay ≡ true
+pub listed-test : (delay : ℕ) → Listed delay → listed delay ≡ true
 listed-test delay (rank, h, e) =
     let same : rankWith delay ≡ rank = ap rankWith (sym e) ∙ rank-twelfths rank h in
     lt-ltb (rankWith delay) 256 (omega (arith, same, h))
 
 -- one that fails it is of none
-listed-no : (delay : ℕ) → listed delay ≡ false → Listed delay → ⊥
+pub listed-no : (delay : ℕ) → listed delay ≡ false → Listed delay → ⊥
 listed-no delay e l =
     let h = ltb-false (rankWith delay) 256 e in
     let g = ltb-true (rankWith delay) 256 (listed-test delay l) in
     omega (arith, h, g)
 
 -- and one of none fails it
-unlisted-test : (delay : ℕ) → (Listed delay → ⊥) → listed delay ≡ false
+pub unlisted-test : (delay : ℕ) → (Listed delay → ⊥) → listed delay ≡ false
 unlisted-test delay w = go (listed delay) refl
   where
     go : (t : Bool) → listed delay ≡ t → listed delay ≡ false

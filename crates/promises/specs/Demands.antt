@@ -1,12 +1,15 @@
 -- The three demands, in the words of the person this is built for, and under each the statements that meet it; then
--- what is promised of the salvage tool, of the tally book and of sync breaks. A reviewer starts here:
--- each name below is a statement of the file beside it, and proofs/Demands.antt holds a proof of every one.
+-- what is promised of the salvage tool, of the tally book, of sync breaks and of the excitation. A reviewer starts
+-- here: each name below is a statement of the file beside it, and proofs/Demands.antt holds a proof of every one.
 use Rattle.listing.specs.Promised.{ListingFits, ListingStands, FaultsListed, LetterListed, RefusedListingStays}
 use Rattle.salvage.specs.Promised.{SalvageRefuses, SalvageStands, SalvagedAccepted, KeptUpToRefusal, SoundUnchanged}
 use Rattle.salvage.specs.Promised.{SalvagedAgain, FewestGo, NoEmptyBlock, KeptStands}
 use Rattle.changes.specs.Promised.{ChangesTold, ChangesFit}
 use Rattle.tally.specs.Promised.{TallyRefuses, RecordingFirst, TallyStands, TotalFits, ClearedEmpty, NoKeyTwice}
 use Rattle.tally.specs.Promised.{TotalOfFirsts, HeldIfAccepted, EitherOrder, AnyOrder, SameAgain}
+use Rattle.mixing.specs.Promised.{RoundedOnce, HeldAtTheEnds, ElementIs, CodeAlone, NothingOverflows}
+use Rattle.excitation.specs.Promised.{ElementsAre, WithinRegister, ElementsWithin, RegisterMoves, SixtyOrNone}
+use Rattle.excitation.specs.Promised.{ByIndicesAlone, SilentIsCode}
 use Rattle.promises.specs.Frames.{ReadsBack, SameBits, DamageAlone, OneMended, TwoReported, EveryFrameRead}
 use Rattle.promises.specs.Frames.{OneFrame, SixteenFrames}
 use Rattle.promises.specs.Functions.{WriteThenRead, ReadThenWrite, RepairByDamage, OneFlip, TwoFlips, NoTwoFrames}
@@ -35,6 +38,7 @@ use Rattle.promises.specs.Running.{StateRunsOn, CorrectionPassedOn, Noth
 use Rattle.promises.specs.Running.{SoFarAlone}
 use Rattle.promises.specs.Worked.{AllTwelve}
 use Rattle.promises.specs.Tally.{SalvagedSameKey}
+use Rattle.promises.specs.Excitation.{ExcitationRefuses, ExcitationNumbers}
 
 -- "Every frame, record or recording, however damaged, gets an answer and the call ends. A frame that isn't eighteen
 -- bytes, an index too large for its field, a record to write whose line spectral parameters fall, a delay that can't be
@@ -91,6 +95,10 @@ pub record DemandOne : Type 0 where
   pub tally-refuses : TallyRefuses
   pub recording-first : RecordingFirst
   pub tally-stands : TallyStands
+  -- the excitation (document 02, K6)
+  pub excitation-refuses : ExcitationRefuses
+  pub excitation-numbers : ExcitationNumbers
+  pub sixty-or-none : SixtyOrNone
 
 -- "Reading and writing are those of Federal Standard 1016: the 144 places, the parity, the gains, delays, averaged
 -- parameters and 512 ternary codes. A record the writer accepts reads back equal. A frame that is read writes back to
@@ -237,3 +245,26 @@ pub record SyncBreaks : Type 0 where
   pub last-lost : LastLost
   pub two-lost : TwoLost
   pub many-lost : ManyLost
+
+-- Document 02, K6: "The register holds 147 whole numbers, zero at first. For whole delay d, element t of the adaptive
+-- code is register element -d + (t mod d). Each excitation element is the exact sum of CG times the ternary element and
+-- a thousandth of PG times the adaptive element, the sum rounded once to nearest with halves away from zero, then held
+-- within plus or minus 1,000,000 [..]. The register moves by sixty each subframe. Sixty elements are lent to be
+-- written."
+--
+-- When it is refused, and that a refusal writes nothing and leaves the register, stands under demand 1.
+pub record ListeningBox : Type 0 where
+  -- one element
+  pub rounded-once : RoundedOnce
+  pub held-at-the-ends : HeldAtTheEnds
+  pub element-is : ElementIs
+  pub code-alone : CodeAlone
+  pub nothing-overflows : NothingOverflows
+  -- the sixty of a subframe
+  pub elements-are : ElementsAre
+  pub within-register : WithinRegister
+  pub elements-within : ElementsWithin
+  pub silent-is-code : SilentIsCode
+  pub by-indices-alone : ByIndicesAlone
+  -- the register after
+  pub register-moves : RegisterMoves

@@ -4,3 +4,4 @@ pub mod Turns
 pub mod Worked
 pub mod Determined
 pub mod Signed
+pub mod Rows

@@ -1,0 +1,4 @@
+pub mod Register
+pub mod Excitation
+pub mod Outcome
+pub mod Promised

@@ -1,0 +1,4 @@
+pub mod Sums
+pub mod Rounded
+pub mod Laws
+pub mod Determined
