@@ -2,7 +2,7 @@
 """Holds numbers and listings in prose to the definitions and to what the programs print.
 
     prose.py                    the programs are those that rt and host/Makefile build
-    prose.py --with PROGRAM     the independent program stands in for `list`, `hear`, `salvager` and `sheet`, but where they are given an argument
+    prose.py --with PROGRAM     the independent program stands in for `list`, `hear`, `salvager`, `excite` and `sheet`, but where they are given an argument
 
 Listings. In a code block of a page, and in an example of a manual page, a line `$ COMMAND` is followed by what it prints. Each command is
 run and compared (of `rt check NAMES && COMMAND` the second), but those of NOT_RUN, which show nothing, and those of a manual page that
@@ -26,15 +26,16 @@ ROOT = Path(__file__).resolve().parent.parent
 PAGES = ["README.md", "CHANGELOG.md", "docs/*.md", "docs/landings/*.md", "samples/README.md", "outside/*.md"]
 MANUAL = ["host/*.1", "host/*.3"]
 NAMING = ["README.md", "docs/HANDBOOK.md", "docs/CHANGING.md", "samples/README.md"]
-SHOWING = {"README.md": ["list"], "docs/HANDBOOK.md": ["list", "hear", "salvager", "sheet"], "samples/README.md": ["list", "salvager"],
+SHOWING = {"README.md": ["list"], "docs/HANDBOOK.md": ["list", "hear", "salvager", "excite", "sheet"], "samples/README.md": ["list", "salvager"],
            "host/oatlantern-list.1": ["list"], "host/oatlantern-hear.1": ["hear"], "host/oatlantern-salvage.1": ["salvager"],
+           "host/oatlantern-excite.1": ["excite"],
            "host/oatlantern-decode.1": ["oatlantern-decode"]}
 NOT_RUN = re.compile(r"rt |\.ci/run|cargo |make |cc |git |samples/make\.py |\.ci/prose\.py|python3 ")
 RUN = re.compile(r"(\./run target/\S+|oatlantern-\w+|head|sed -n|cut|tail|od|wc|cmp|diff|printf|echo)\b")
 TALLIED = r"held \d+|total \d+|entries \d+|book \d+"
 CHANGE = r"dropped \d+ bytes from \d+|kept \d+ frames|end written at \d+"
 LISTING = re.compile(r"unit \d+ recording \d+ frames \d+|\d+ \d+ [cpd] (refused \d+|\d+ [01]( \d+){4})|repaired \d+ breaks \d+|refused \d+ at \d+( \d+)?"
-                     rf"|frame \d+( \d+){{28}} .*|block( \d+){{3}}|{CHANGE}|{TALLIED}")
+                     rf"|frame \d+( \d+){{28}} .*|block( \d+){{3}}|\d+( [1-4])? refused \d+|\d+ [1-4]( -?\d+){{60}}|{CHANGE}|{TALLIED}")
 independent = Path(sys.argv[2]).resolve() if sys.argv[1:2] == ["--with"] else None
 cases, faults = 0, []
 
@@ -120,14 +121,14 @@ def blocks(path):
 
 def built(command):
     """The command with the programs where they are built."""
-    command = re.sub(r"\boatlantern-(list|hear)\b", r"./run target/bin/\1", command)
+    command = re.sub(r"\boatlantern-(list|hear|excite)\b", r"./run target/bin/\1", command)
     command = re.sub(r"\boatlantern-salvage\b", r"./run target/bin/salvager", command)
     return re.sub(r"(?<!/)\boatlantern-(decode|encode)\b", r"./run target/host/oatlantern-\1", command)
 
 
 def stood_in(command):
     """The same with the independent program, where there is one, for those that it stands in for."""
-    return re.sub(r"\./run target/bin/(list|hear|salvage|sheet)r?\b", rf"{independent} \1", command) if independent else command
+    return re.sub(r"\./run target/bin/(list|hear|salvage|excite|sheet)r?\b", rf"{independent} \1", command) if independent else command
 
 
 def file_of(path, command):
@@ -136,7 +137,7 @@ def file_of(path, command):
 
 
 showing = set()
-SAID = [*(f"samples/*.{suffix}" for suffix in ("list", "hear", "changes", "said")), "crates/sheet/stdout"]
+SAID = [*(f"samples/*.{suffix}" for suffix in ("list", "hear", "excite", "changes", "said")), "crates/sheet/stdout"]
 printed = {line for path in pages(SAID) for line in read(path).splitlines()}
 for path in pages(PAGES) + pages(MANUAL):
     for block in blocks(path):
@@ -156,7 +157,7 @@ for path in pages(PAGES) + pages(MANUAL):
                 continue
             written = [file for file in re.findall(r">\s*([^\s&|]+)", command) if not re.match(r"target/[\w-]+\.rec$|/dev/null$", file)]
             hold(not written, path, n, f"`{command}` writes {written}")
-            if written or independent and re.search(r"\b(oatlantern-|target/bin/)(list|hear|salvager?) +[^<>|\s]", command):
+            if written or independent and re.search(r"\b(oatlantern-|target/bin/)(list|hear|excite|salvager?) +[^<>|\s]", command):
                 continue
             run = built(file_of(path, command))
             showing.update((path, program) for program in re.findall(r"\./run target/\w+/([\w-]+)", run))

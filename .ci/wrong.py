@@ -87,12 +87,13 @@ class Room:
             if (crate / "args").exists():
                 shutil.copy(crate / "args", folder / "crates" / crate.name / "args")
         shutil.copy(ROOT / "crates.txt", folder / "crates.txt")
-        self.kept = folder / "kept"
+        self.kept, self.first = folder / "kept", folder / "first"
         self.kept.mkdir()
         self.kit = self.keeping_kit(folder / "kit")
 
     def keeping_kit(self, kit):
-        """The kit, its linker told to keep a copy of each program that it makes, so that `rt try` leaves what it has compiled."""
+        """The kit, its linker told to keep a copy of each program that it makes, so that `rt try` leaves what it has compiled; and to fail
+        after the first, the one at -O0, where that alone is wanted."""
         rt = Path(shutil.which("rt")).resolve()
         home, machine = Path(os.environ.get("RATTLE_HOME", rt.parent.parent)), os.uname().machine
         inner = Path("on", machine, "toolchain", "bin", "ld.lld")
@@ -102,7 +103,8 @@ class Room:
             for entry in (home / part).iterdir():
                 if entry.name != inner.parts[depth]:
                     (kit / part / entry.name).symlink_to(entry)
-        (kit / inner).write_text(f'#!/bin/sh\n"{home / inner}" "$@" || exit\ncp program "{self.kept}/$(ls "{self.kept}" | wc -l)"\n', encoding="utf-8")
+        (kit / inner).write_text(f'#!/bin/sh\n"{home / inner}" "$@" || exit\ncp program "{self.kept}/$(ls "{self.kept}" | wc -l)"\n'
+                                 f'[ ! -e "{self.first}" ]\n', encoding="utf-8")
         (kit / inner).chmod(0o755)
         return kit
 
@@ -125,9 +127,15 @@ class Room:
                 shutil.copy(CRATES / crate / file, self.folder / "crates" / crate / file)
 
     def seen(self, texts, run):
-        """What a program that was compiled with these texts, at -O0 or at -O3, ends with and prints in a run other than it should, or None."""
-        self.try_out(texts, run[0], None, None)
+        """What a program that was compiled with these texts, at -O0 or at -O3, ends with and prints in a run other than it should, or None.
+        It is compiled at -O3 only if nothing is seen at -O0."""
         for kept in ("0", "1"):
+            if kept == "0":
+                self.first.touch()
+            try:
+                self.try_out(texts, run[0], None, None)
+            finally:
+                self.first.unlink(missing_ok=True)
             try:
                 if (self.kept / kept).exists() and (other := self.other(kept, run)):
                     return other

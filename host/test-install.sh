@@ -46,7 +46,7 @@ says() {
 command -v pkg-config > /dev/null || fail "pkg-config is not there (Debian: apt-get install pkg-config)"
 functions=$(sed -n 's/^[a-z].*[ *]\(oatlantern_[a-z_]*\)(.*/\1/p' ../include/oatlantern.h)
 version=$(sed -n 's/^.define OATLANTERN_VERSION "\(.*\)"$/\1/p' ../include/oatlantern.h)
-programs='decode encode list hear salvage'
+programs='decode encode list hear salvage excite'
 
 # ---- What is installed ----
 
@@ -59,7 +59,7 @@ for p in $programs; do
     holds "oatlantern-$p.1 was not installed" test -f "$tmp/usr/share/man/man1/oatlantern-$p.1"
 done
 # of those in Rattle: the crate, and the name
-for p in list:list hear:hear salvager:salvage; do
+for p in list:list hear:hear salvager:salvage excite:excite; do
     holds "oatlantern-${p#*:} is not what rt built" cmp ../target/bin/"${p%:*}" "$tmp/usr/bin/oatlantern-${p#*:}"
 done
 
@@ -108,7 +108,7 @@ done
 [ $examples -ge 14 ] || fail "only $examples examples were found"
 
 # the programs in Rattle say by their installed names what is wrong around them, and write nothing
-for p in list hear salvage; do
+for p in list hear salvage excite; do
     usage="usage: oatlantern-$p <recording"
     [ $p != salvage ] || usage="$usage >salvaged"
     says "$p: an argument" "$usage" sh -c '"$0" FILE 2>&1 < "$1"' "$tmp/path/oatlantern-$p" "$root/samples/dropped-later.rec"

@@ -73,9 +73,9 @@ extern "C" {
 /* ---- The version of this header ---- */
 
 #define OATLANTERN_VERSION_MAJOR 1
-#define OATLANTERN_VERSION_MINOR 4
+#define OATLANTERN_VERSION_MINOR 5
 #define OATLANTERN_VERSION_PATCH 0
-#define OATLANTERN_VERSION "1.4.0"
+#define OATLANTERN_VERSION "1.5.0"
 
 /* ---- Sizes ---- */
 
