@@ -23,28 +23,23 @@ line differs or a program fails.
 """
 
 import math
-import os
-import platform
 import shlex
 import shutil
 import struct
 import subprocess
 import sys
 import tempfile
-import time
 from pathlib import Path
 
-ROOT = Path(__file__).resolve().parents[2]
-NATIVE = platform.machine().lower() in ("x86_64", "amd64")
+sys.path.insert(0, str(Path(__file__).resolve().parents[1]))
+from measure import NATIVE, ROOT, UNIT, measured
+
 SIZES = (16, 256, 4096)
 PLAIN = "number first"
 # the layouts of scan.c, each with its macro
 LAYOUTS = {PLAIN: None, "unit first": "UNIT_FIRST", "rows": "ROWS", "by value": "BY_VALUE"}
 # few calls and many, how often a key is new in a run, how often a run is made; for a time, many take at least LONG
 FEW, MANY, FRESH, TURNS, LONG = (1, 1000, 7000, 7, 30_000_000) if NATIVE else (4, 12, 1, 1, 0)
-# one instruction at a time, on a processor for which the C library copies 16 bytes by an instruction: one that repeats
-# itself would be logged for each byte
-EMULATOR = {"QEMU_ONE_INSN_PER_TB": "1", "QEMU_LOG": "exec,nochain", "QEMU_CPU": "qemu64"}
 NEW, AGAIN = "enter a new key", "enter the last again"
 
 
@@ -81,26 +76,6 @@ def floor(size):
     return [((turn + 7 * ended) % units + 1, ended + 1, 100 + row) for row, ended, turn in rounds]
 
 
-def timed(path, given, taken):
-    start = time.perf_counter_ns()
-    ended = subprocess.run([path], stdin=given, stdout=taken, stderr=subprocess.PIPE, check=False)
-    return ended.returncode, time.perf_counter_ns() - start, ended.stderr
-
-
-def counted(path, given, taken):
-    """The log comes by standard error. Nine bits of a line's last number tell how many instructions a block has."""
-    count, said = 0, b""
-    streams = {"stdin": given, "stdout": taken, "stderr": subprocess.PIPE}
-    with subprocess.Popen([ROOT / "run", path], env={**os.environ, **EMULATOR}, **streams) as running:
-        for line in running.stderr:
-            if not line.startswith(b"Trace "):
-                said += line
-            elif count == 0 and int(line[:line.index(b"]")].split(b"/")[-1], 16) % 512 != 1:
-                said += b"(the emulator executes several instructions at a time)"
-            count += 1
-    return running.returncode, count, said if count else b"(the emulator logs nothing)"
-
-
 class Programs:
     """The programs, by name, and how many lines of theirs were compared."""
 
@@ -126,7 +101,7 @@ class Programs:
         """What a run takes, with the start of the program. It has to print the lines."""
         (self.folder / "calls").write_bytes(calls)
         with (self.folder / "calls").open("rb") as given, (self.folder / "lines").open("wb") as taken:
-            status, took, said = (timed if NATIVE else counted)(self.paths[name], given, taken)
+            status, took, said = measured(self.paths[name], given, taken)
         if status or said:
             sys.exit(f"{name}: status {status}, standard error {said[:200]!r}")
         printed = (self.folder / "lines").read_text().splitlines()
@@ -244,14 +219,13 @@ def main(sheet=ROOT / "target/bin/sheet"):
     with tempfile.TemporaryDirectory() as folder:
         programs = Programs(sheet, Path(folder))
         found = {size: measure(programs, size) for size in SIZES}
-    unit = "nanoseconds" if NATIVE else "instructions"
     sides = {"sheet": "sheet", "scan": PLAIN, "map": "map"}
     layouts = {name: name for name in LAYOUTS}
-    print(f"{unit} a call: the program, the plain scan in C, the hash map in C++ ({programs.compilers})")
+    print(f"{UNIT} a call: the program, the plain scan in C, the hash map in C++ ({programs.compilers})")
     table(found, sides, {"sheet/scan": ("sheet", "scan"), "sheet/map": ("sheet", "map")})
     print()
     growth(found, sides)
-    print(f"\n{unit} a call: the scan in C by its layout; the plain one has the number first, columns, and a lent book")
+    print(f"\n{UNIT} a call: the scan in C by its layout; the plain one has the number first, columns, and a lent book")
     ratios = {"unit/plain": "unit first", "rows/plain": "rows", "value/plain": "by value"}
     table(found, layouts, {heading: (name, PLAIN) for heading, name in ratios.items()})
     print()

@@ -19,25 +19,20 @@ program fails.
 """
 
 import math
-import os
-import platform
 import shlex
 import shutil
 import struct
 import subprocess
 import sys
 import tempfile
-import time
 from pathlib import Path
 
-ROOT = Path(__file__).resolve().parents[2]
+sys.path.insert(0, str(Path(__file__).resolve().parents[1]))
+from measure import NATIVE, ROOT, UNIT, measured
+
 OUTSIDE = ROOT / "outside/target/release/outside"
-NATIVE = platform.machine().lower() in ("x86_64", "amd64")
 # few times and many, how often a run is made; for a time, many take at least LONG
 FEW, MANY, TURNS, LONG = (1, 1000, 7, 30_000_000) if NATIVE else (4, 12, 1, 0)
-# one instruction at a time, on a processor for which the C library copies 16 bytes by an instruction: one that repeats
-# itself would be logged for each byte
-EMULATOR = {"QEMU_ONE_INSN_PER_TB": "1", "QEMU_LOG": "exec,nochain", "QEMU_CPU": "qemu64"}
 # what is measured, by its delay in twelfths
 MEASURED = {
     "delay 20": 240,
@@ -78,26 +73,6 @@ def header(text):
     return "".join(f"static const {name}[{len(values)}] = {{ {', '.join(values)} }};\n" for name, values in arrays)
 
 
-def timed(path, given, taken):
-    start = time.perf_counter_ns()
-    ended = subprocess.run([path], stdin=given, stdout=taken, stderr=subprocess.PIPE, check=False)
-    return ended.returncode, time.perf_counter_ns() - start, ended.stderr
-
-
-def counted(path, given, taken):
-    """The log comes by standard error. Nine bits of a line's last number tell how many instructions a block has."""
-    count, said = 0, b""
-    streams = {"stdin": given, "stdout": taken, "stderr": subprocess.PIPE}
-    with subprocess.Popen([ROOT / "run", path], env={**os.environ, **EMULATOR}, **streams) as running:
-        for line in running.stderr:
-            if not line.startswith(b"Trace "):
-                said += line
-            elif count == 0 and int(line[:line.index(b"]")].split(b"/")[-1], 16) % 512 != 1:
-                said += b"(the emulator executes several instructions at a time)"
-            count += 1
-    return running.returncode, count, said if count else b"(the emulator logs nothing)"
-
-
 def plainly(path, given, taken):
     """A run that is not measured."""
     command = [path] if NATIVE else [ROOT / "run", path]
@@ -129,7 +104,7 @@ class Programs:
             self.right[cases] = printed.decode().splitlines()
         return self.right[cases]
 
-    def spent(self, name, cases, run=timed if NATIVE else counted):
+    def spent(self, name, cases, run=measured):
         """What a run takes, with the start of the program. It has to print the right lines."""
         (self.folder / "cases").write_bytes(cases)
         with (self.folder / "cases").open("rb") as given, (self.folder / "lines").open("wb") as taken:
@@ -173,13 +148,12 @@ def main(subframes=ROOT / "target/bin/subframes"):
     for needed in (subframes, OUTSIDE):
         if not Path(needed).is_file():
             sys.exit(f"{needed} is not there")
-    unit = "nanoseconds" if NATIVE else "instructions"
     with tempfile.TemporaryDirectory() as folder:
         programs = Programs(subframes, Path(folder))
         cases = subprocess.check_output([OUTSIDE, "subframe-cases", "all"])
         for name in programs.paths:
             programs.spent(name, cases, plainly)
-        print(f"{unit} a subframe: the program, and the plain loop in C ({programs.compiler})")
+        print(f"{UNIT} a subframe: the program, and the plain loop in C ({programs.compiler})")
         print(f"{'':<26}{'subframes':>12}{'plain':>12}{'ratio':>8}")
         for name, delay in MEASURED.items():
             by = programs.each(delay)

@@ -1,4 +1,4 @@
--- The adaptive code, and the mixing of the two codes by their gains (document 02, K6).
+-- The adaptive code (3.5.1), and the mixing of the two codes by their gains (3.4, 3.6; document 02, K6).
 use mathlib.Core.List.{List}
 use Prim.Native.Nat.{ℕ, _/_, _%_}
 use lib.IntN.{ℤ, pos, negℤ, _+ℤ_}
@@ -9,7 +9,7 @@ use Rattle.codebook.specs.Code.{codeOf}
 use Rattle.mixing.specs.Mixing.{elementOf}
 use Rattle.excitation.specs.Register.{elementAt}
 
--- the adaptive code for whole delay d: element t is register element -d + (t mod d)
+-- the adaptive code for whole delay d (3.5.1): element t is register element -d + (t mod d)
 unfoldable pub adaptiveOf : List ℤ → ℕ → List ℤ
 adaptiveOf register d = tabulate (λ t. elementAt register (negℤ (pos d) +ℤ pos (t % d))) 60
 

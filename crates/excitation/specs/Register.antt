@@ -1,4 +1,4 @@
--- The register: 147 whole numbers, zero at first, the newest last (document 02, K6).
+-- The register (3.5.1, the adaptive "code book"): 147 whole numbers, zero at first, the newest last (document 02, K6).
 use mathlib.Core.List.{List, _++_}
 use Prim.Native.Nat.{_-_}
 use lib.IntN.{ℤ, pos, negsuc}

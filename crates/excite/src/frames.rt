@@ -3,15 +3,22 @@ use crate::line;
 use excitation::Register;
 use passes::Hearing;
 use values::State;
+ghost use mathlib.Core.Bool.{true};
+ghost use mathlib.Core.Path.{_≡_};
+ghost use Rattle.blocks.specs.Frames.{framesOf};
+ghost use Rattle.excitation.specs.Outcome.{excitedOf};
+ghost use Rattle.excite.specs.Running.{subframesAfter, frameAfter, registerAfter};
 
-// Whether a line was written, and the register after it.
-struct Told {
-    written: bool,
-    register: Register,
+// Whether all lines were written, and the register after them.
+pub struct Told {
+    pub written: bool,
+    pub register: Register,
 }
 
-// The lines of so many frames, by a pass from a fresh state and a silent register on. Answers whether all were written.
-pub fn all(s: &[u8], count: u32) -> bool {
+// The lines of so many frames, by a pass from a fresh state and a silent register on.
+pub fn all(s: &[u8], count: u32) -> Told
+    ensures { λ r. ⌜ (r .written ≡ true → r .register ≡ registerAfter (framesOf (now (s .entry))) count) ⌝ }
+{
     let mut pass = passes::start(s, State::fresh());
     let mut register = Register::silent();
     let mut k = 0;
@@ -19,17 +26,25 @@ pub fn all(s: &[u8], count: u32) -> bool {
         let step = steps::next(s, pass);
         k += 1;
         let told = one(k, step.hearing, register);
-        if !told.written {
-            return false;
-        }
         register = told.register;
+        if !told.written {
+            return Told {
+                written: false,
+                register,
+            };
+        }
         pass = step.pass;
     }
-    true
+    Told {
+        written: true,
+        register,
+    }
 }
 
 // The lines of a frame by its number: one where it is refused, and the register as it was; else those of its subframes.
-fn one(k: u32, hearing: Hearing, register: Register) -> Told {
+fn one(k: u32, hearing: Hearing, register: Register) -> Told
+    ensures { λ r. ⌜ (r .written ≡ true → r .register ≡ frameAfter hearing register) ⌝ }
+{
     let values = hearing.values;
     let outcome = values.outcome;
     let number = outcome.refusal_number();
@@ -45,11 +60,13 @@ fn one(k: u32, hearing: Hearing, register: Register) -> Told {
 }
 
 // The lines of the four subframes, from their delays and the four indices of each.
-fn heard(k: u32, delays: [u16; 4], indices: [u16; 16], mut register: Register) -> Told {
+fn heard(k: u32, delays: [u16; 4], indices: [u16; 16], mut register: Register) -> Told
+    ensures { λ r. ⌜ (r .written ≡ true → r .register ≡ subframesAfter delays indices register 4) ⌝ }
+{
     let mut n = 0;
     while n < 4 {
         let i = 4 * n;
-        let told = subframe(
+        let made = subframe(
             k,
             n as u32 + 1,
             register,
@@ -58,8 +75,8 @@ fn heard(k: u32, delays: [u16; 4], indices: [u16; 16], mut register: Register) -
             indices[i + 2],
             indices[i + 3],
         );
-        register = told.register;
-        if !told.written {
+        register = made.register;
+        if !made.written {
             return Told {
                 written: false,
                 register,
@@ -74,7 +91,9 @@ fn heard(k: u32, delays: [u16; 4], indices: [u16; 16], mut register: Register) -
 }
 
 // The line of a subframe.
-fn subframe(k: u32, n: u32, before: Register, delay: u16, pg: u16, ci: u16, cg: u16) -> Told {
+fn subframe(k: u32, n: u32, before: Register, delay: u16, pg: u16, ci: u16, cg: u16) -> Told
+    ensures { λ r. ⌜ r .register ≡ excitedOf before delay pg ci cg 60 .register ⌝ }
+{
     let mut elements = [0i32; 60];
     let excited = excitation::excite(before, delay as u32, pg, ci, cg, &mut elements);
     let outcome = excited.outcome;

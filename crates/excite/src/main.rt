@@ -43,6 +43,9 @@ fn excite(s: &[u8]) -> bool {
     let ending = walked.ending;
     match ending {
         Ending::Refused(cause) => line::refused(cause),
-        Ending::Sound => frames::all(s, walked.walk.frames),
+        Ending::Sound => {
+            let told = frames::all(s, walked.walk.frames);
+            told.written
+        }
     }
 }
