@@ -3,18 +3,20 @@
 use mathlib.Core.Path.{_≡_, _∙_, sym, refl, ap}
 use mathlib.Core.Bool.{cond}
 use mathlib.Core.List.{List, [], _∷_}
-use Prim.Native.Nat.{ℕ, zero, suc, _+_, _-_, _/_, _<_, _≤_}
+use Prim.Native.Nat.{ℕ, zero, suc, _+_, _-_, _*_, _<_, _≤_}
 use native.Mathlib.Omega.{arith}
 use native.Mathlib.Decide.{ℕ-discrete}
 use lib.Dec.{T, leb, ltb, eqb, eqb→eq, leb→le}
 use lib.ListN.{length, getD}
 use lib.Seq.{ext-getD}
+use borrow.Author.Tests.{le-leb, lt-leb}
 use Rattle.laws.specs.Table.{both, every}
 use Rattle.laws.specs.Tabulate.{tabulate}
 use Rattle.laws.proofs.Table.{at, both-left, both-right}
 use Rattle.laws.proofs.Place.{place-entry, place-back}
 use Rattle.laws.proofs.Tabulate.{length-tabulate, getD-tabulate}
 use Rattle.delays.specs.Table.{delays, bytes, twelfthsOf, stretched, printedByte, rankOf, rankWith}
+use Rattle.delays.specs.Steps.{rankIn}
 
 -- there are 256 delays
 pub delays-long : length delays ≡ 256
@@ -26,6 +28,34 @@ pub twelfths-stretched : (rank : ℕ) → rank < 256 → twelfthsOf rank ≡ str
 unfolding delays twelfthsOf stretched
 twelfths-stretched rank h =
     eqb→eq (twelfthsOf rank) (stretched rank) (at 0 (λ k x. eqb x (stretched k)) delays tt rank h)
+
+-- so the twelfths of a rank in each stretch: those of the first, and its steps from there
+module _ (rank : ℕ) where
+  -- from 20 samples in thirds
+  pub in-first-thirds : rank < 18 → 240 + 4 * rank ≡ twelfthsOf rank
+  unfolding stretched
+  in-first-thirds h = sym (twelfths-stretched rank (omega arith) ∙ rw (le-leb rank 17 (omega arith)) refl)
+
+  -- from 26 samples in quarters
+  pub in-quarters : 18 ≤ rank → rank < 50 → 312 + 3 * (rank - 18) ≡ twelfthsOf rank
+  unfolding stretched
+  in-quarters l h =
+      sym (twelfths-stretched rank (omega arith)
+      ∙ rw (lt-leb rank 17 (omega arith), le-leb rank 49 (omega arith)) refl)
+
+  -- from 34 samples in thirds
+  pub in-second-thirds : 50 ≤ rank → rank < 188 → 408 + 4 * (rank - 50) ≡ twelfthsOf rank
+  unfolding stretched
+  in-second-thirds l h =
+      sym (twelfths-stretched rank (omega arith)
+      ∙ rw (lt-leb rank 17 (omega arith), lt-leb rank 49 (omega arith), le-leb rank 187 (omega arith)) refl)
+
+  -- from 80 in whole samples
+  pub in-wholes : 188 ≤ rank → rank < 256 → 960 + 12 * (rank - 188) ≡ twelfthsOf rank
+  unfolding stretched
+  in-wholes l h =
+      sym (twelfths-stretched rank h
+      ∙ rw (lt-leb rank 17 (omega arith), lt-leb rank 49 (omega arith), lt-leb rank 187 (omega arith)) refl)
 
 -- the shortest delay is 20 samples, the longest 147
 pub twelfths-low : (rank : ℕ) → rank < 256 → 240 ≤ twelfthsOf rank
@@ -56,25 +86,25 @@ twelfths-rise low (suc high) l h = here (ℕ-discrete low high) (λ k. twelfths-
         let b : twelfthsOf low < twelfthsOf high = below (omega arith) in
         omega (arith, twelfths-step high (omega arith))
 
--- the rank that the four stretches give for a delay in twelfths
-unfoldable pub candidateOf : ℕ → ℕ
-candidateOf delay =
-    cond (ltb delay 240) 0
-    (cond (ltb delay 312) ((delay - 240) / 4)
-    (cond (ltb delay 408) (18 + (delay - 312) / 3)
-    (cond (ltb delay 960) (50 + (delay - 408) / 4) (cond (ltb delay 1776) (188 + (delay - 960) / 12) 255))))
+-- the rank that the four stretches give for a delay in twelfths: 256 before them, past them and between their steps
+unfoldable pub searched : ℕ → ℕ
+searched delay =
+    cond (ltb delay 240) 256
+    (cond (ltb delay 312) (rankIn 240 4 0 delay)
+    (cond (ltb delay 408) (rankIn 312 3 18 delay)
+    (cond (ltb delay 960) (rankIn 408 4 50 delay) (cond (ltb delay 1776) (rankIn 960 12 188 delay) 256))))
 
 -- it leads from each rank's twelfths back to that rank
-pub candidate-twelfths : (rank : ℕ) → rank < 256 → candidateOf (twelfthsOf rank) ≡ rank
-unfolding delays twelfthsOf candidateOf
-candidate-twelfths rank h =
-    eqb→eq (candidateOf (twelfthsOf rank)) rank (at 0 (λ k x. eqb (candidateOf x) k) delays tt rank h)
+pub searched-twelfths : (rank : ℕ) → rank < 256 → searched (twelfthsOf rank) ≡ rank
+unfolding delays twelfthsOf searched
+searched-twelfths rank h =
+    eqb→eq (searched (twelfthsOf rank)) rank (at 0 (λ k x. eqb (searched x) k) delays tt rank h)
 
 -- so each delay stands in the list once: the rank of a rank's twelfths is that rank
 pub rank-twelfths : (rank : ℕ) → rank < 256 → rankWith (twelfthsOf rank) ≡ rank
 unfolding twelfthsOf rankWith
 rank-twelfths rank h =
-    place-back candidateOf delays (λ k l. candidate-twelfths k (omega (arith, delays-long))) rank
+    place-back searched delays (λ k l. searched-twelfths k (omega (arith, delays-long))) rank
     (omega (arith, delays-long))
 
 -- a listed delay is the twelfths of its rank
