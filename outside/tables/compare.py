@@ -36,7 +36,6 @@ RATTLE = [
     ("crates/record/src/lib.rt", "WIDTHS", "widths"),
     ("crates/gains/src/lib.rt", "CG", "cg"),
     ("crates/gains/src/lib.rt", "PG", "pg"),
-    ("crates/meanings/src/tables.rt", "TWELFTHS", "codes.twelfths"),
     ("crates/coder/src/lib.rt", "BYTES", "codes.bytes"),
     ("crates/meanings/src/tables.rt", "RANKS", "codes.ranks"),
     ("crates/hertz/src/lib.rt", "HZ", "lsp.by-index"),

@@ -11,7 +11,7 @@ use lib.ListN.{getD}
 use borrow.Author.Tests.{lt-ltb, le-ltb, le-leb, lt-leb}
 use Rattle.laws.specs.Tabulate.{tabulate}
 use Rattle.laws.proofs.Tabulate.{getD-tabulate}
-use Rattle.delays.specs.Table.{delays, bytes, twelfthsOf, printedByte, rankOf, rankWith}
+use Rattle.delays.specs.Table.{bytes, twelfthsOf, printedByte, rankOf, rankWith}
 use Rattle.laws.specs.Unless.{unless}
 use Rattle.delays.specs.Codes.{baseOf, afterOf, fourMeant, listed, inWindow, pairOf, codedOf}
 use Rattle.delays.specs.Steps.{delaysMeant, codedPair, bothInside}
@@ -36,16 +36,14 @@ module _ {ranks : List ℕ} (t : ranks ≡ tabulate rankOf 256) (a : ℕ) (h : a
   pub rank-read-below : getD ranks a 0 < 256
   rank-read-below = rw rank-read (rank-below a (omega arith))
 
-  -- its delay, from both tables
-  pub first-meant : {table : List ℕ} → table ≡ delays → getD table (getD ranks a 0) 0 ≡ twelfthsOf (rankOf a)
-  unfolding twelfthsOf
-  first-meant d = rw (d, rank-read)
+  -- its delay, worked out of what was read
+  pub first-meant : {delay : ℕ} → delay ≡ twelfthsOf (getD ranks a 0) → delay ≡ twelfthsOf (rankOf a)
+  first-meant e = e ∙ ap twelfthsOf rank-read
 
-  -- the delay of a code after it, from both tables and the base
-  pub next-meant : {table : List ℕ} {low : ℕ} (b : ℕ) → table ≡ delays → low ≡ baseOf (getD ranks a 0)
-      → getD table (low + b) 0 ≡ twelfthsOf (afterOf (rankOf a) b)
-  unfolding twelfthsOf
-  next-meant b d e = rw (e, d, rank-read)
+  -- the delay of a code after it, worked out of the rank that the base leads to
+  pub next-meant : {low delay : ℕ} (b : ℕ) → low ≡ baseOf (getD ranks a 0) → delay ≡ twelfthsOf (low + b)
+      → delay ≡ twelfthsOf (afterOf (rankOf a) b)
+  next-meant b e d = d ∙ ap (λ (n : ℕ). twelfthsOf (n + b)) (e ∙ ap baseOf rank-read)
 
 -- four codes: each that is too large is told by its subframe, past those that are not
 module _ (a b c d : ℕ) where

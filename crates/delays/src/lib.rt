@@ -3,7 +3,7 @@
 // `coder` answers the codes of delays, `meanings` the delays of codes.
 ghost use mathlib.Core.Path.{_≡_};
 ghost use Prim.Native.Nat.{_-_, _≤_};
-ghost use Rattle.delays.specs.Table.{rankWith};
+ghost use Rattle.delays.specs.Table.{twelfthsOf, rankWith};
 ghost use Rattle.delays.specs.Codes.{baseOf};
 ghost use Rattle.delays.specs.Steps.{rankIn};
 
@@ -20,7 +20,25 @@ pub fn base(rank: u16) -> u16
     rank - 31
 }
 
-// The rank of a delay in twelfths, by the four stretches, or 256 if the list has no such delay.
+// The delay of a rank in twelfths, by the four stretches: from 20 samples in thirds, from 26 in quarters, from 34 in
+// thirds, from 80 in whole samples. Every byte is a rank.
+pub fn twelfths(rank: u8) -> u16
+    ensures { λ r. ⌜ r ≡ twelfthsOf rank ⌝ }
+{
+    let wide = rank as u16;
+    if wide < 18 {
+        return 240 + 4 * wide;
+    }
+    if wide < 50 {
+        return 312 + 3 * (wide - 18);
+    }
+    if wide < 188 {
+        return 408 + 4 * (wide - 50);
+    }
+    960 + 12 * (wide - 188)
+}
+
+// The rank of a delay in twelfths, back through the same stretches, or 256 if the list has no such delay.
 pub fn rank_with(delay: u32) -> u16
     ensures { λ r. ⌜ r ≡ rankWith delay ⌝ }
 {

@@ -1,9 +1,9 @@
-// What the codes of four subframes mean: their delays in twelfths (3.5.4, 3.5.5). A table is taken once in a call and lent on.
+// What the codes of four subframes mean: their delays in twelfths (3.5.4, 3.5.5). The table is taken once in a call and lent on.
 use delays::Meant;
 ghost use mathlib.Core.Path.{_≡_};
 ghost use Prim.Native.Nat.{_≤_};
 ghost use Rattle.laws.specs.Tabulate.{tabulate};
-ghost use Rattle.delays.specs.Table.{delays, twelfthsOf, rankOf};
+ghost use Rattle.delays.specs.Table.{twelfthsOf, rankOf};
 ghost use Rattle.delays.specs.Codes.{afterOf, fourMeant, meantBy};
 ghost use Rattle.delays.specs.Steps.{delaysMeant};
 
@@ -42,32 +42,30 @@ fn delays_meant(first: u16, second: u16, third: u16, fourth: u16) -> Meant
     ensures { λ r. ⌜ r ≡ delaysMeant first second third fourth ⌝ }
 {
     let ranks = &tables::RANKS;
-    let table = &tables::TWELFTHS;
     Meant::Delays(
-        delay_of(ranks, table, first),
-        delay_after(ranks, table, first, second),
-        delay_of(ranks, table, third),
-        delay_after(ranks, table, third, fourth),
+        delay_of(ranks, first),
+        delay_after(ranks, first, second),
+        delay_of(ranks, third),
+        delay_after(ranks, third, fourth),
     )
 }
 
 // The delay in twelfths that a code of subframe 1 or 3 means.
-fn delay_of(ranks: &[u8; 256], table: &[u16; 256], code: u16) -> u16
-    requires { ⌜ (now ranks ≡ tabulate rankOf 256) × (now table ≡ delays) ⌝ }
+fn delay_of(ranks: &[u8; 256], code: u16) -> u16
+    requires { ⌜ now ranks ≡ tabulate rankOf 256 ⌝ }
     requires { ⌜ code ≤ 255 ⌝ }
     ensures { λ r. ⌜ r ≡ twelfthsOf (rankOf code) ⌝ }
 {
-    let rank = ranks[code as usize];
-    table[rank as usize]
+    delays::twelfths(ranks[code as usize])
 }
 
 // The delay in twelfths that a code of subframe 2 or 4 means after the code before it.
-fn delay_after(ranks: &[u8; 256], table: &[u16; 256], code: u16, step: u16) -> u16
-    requires { ⌜ (now ranks ≡ tabulate rankOf 256) × (now table ≡ delays) ⌝ }
+fn delay_after(ranks: &[u8; 256], code: u16, step: u16) -> u16
+    requires { ⌜ now ranks ≡ tabulate rankOf 256 ⌝ }
     requires { ⌜ (code ≤ 255) × (step ≤ 63) ⌝ }
     ensures { λ r. ⌜ r ≡ twelfthsOf (afterOf (rankOf code) step) ⌝ }
 {
     let rank = ranks[code as usize];
     let next = delays::base(rank as u16) + step;
-    table[next as usize]
+    delays::twelfths(next as u8)
 }

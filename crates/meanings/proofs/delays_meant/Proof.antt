@@ -1,26 +1,25 @@
--- `meanings::delays_meant` meets its contract: both tables are as printed, and the four delays are read from them.
+-- `meanings::delays_meant` meets its contract: the table has the rank of each byte, and each delay is that of its rank.
 -- Assumes nothing.
 use mathlib.Core.Path.{_∙_, refl}
-use Rattle.delays.specs.Table.{delays}
 use Rattle.delays.proofs.Table.{ranks, inverse}
 use Rattle.meanings.proofs.delays_meant.Statement.{statement}
 use Rattle.meanings.proofs.delays_meant.Tie as tie
 
 delay-of-requires : tie.Need-delay-of-requires
-unfolding ranks delays
-delay-of-requires c κs = ((refl ∙ inverse, refl), c .before .before .pre .0 .0)
+unfolding ranks
+delay-of-requires c κs = (refl ∙ inverse, c .before .pre .0 .0)
 
 delay-after-requires : tie.Need-delay-after-requires
-unfolding ranks delays
-delay-after-requires c κs = ((refl ∙ inverse, refl), c .before .before .before .pre .0)
+unfolding ranks
+delay-after-requires c κs = (refl ∙ inverse, c .before .before .pre .0)
 
 delay-of-requires-2 : tie.Need-delay-of-requires-2
-unfolding ranks delays
-delay-of-requires-2 c κs = ((refl ∙ inverse, refl), c .before .before .before .before .pre .1 .0)
+unfolding ranks
+delay-of-requires-2 c κs = (refl ∙ inverse, c .before .before .before .pre .1 .0)
 
 delay-after-requires-2 : tie.Need-delay-after-requires-2
-unfolding ranks delays
-delay-after-requires-2 c κs = ((refl ∙ inverse, refl), c .before .before .before .before .before .pre .1)
+unfolding ranks
+delay-after-requires-2 c κs = (refl ∙ inverse, c .before .before .before .before .pre .1)
 
 returns : tie.Need-returns
 returns c =
