@@ -1,12 +1,15 @@
-"""How long a program takes, for the benchmarks: its time on x86-64, and on any other machine its instructions."""
+"""For the benchmarks: how long a program takes, its time on x86-64 and on any other machine its instructions; with which compilers
+what is measured beside it is built; and the independent program's tables, for that."""
 
 import os
 import platform
+import shlex
 import subprocess
 import time
 from pathlib import Path
 
 ROOT = Path(__file__).resolve().parents[1]
+OUTSIDE = ROOT / "outside/target/release/outside"
 NATIVE = platform.machine().lower() in ("x86_64", "amd64")
 UNIT = "nanoseconds" if NATIVE else "instructions"
 # one instruction at a time, on a processor for which the C library copies 16 bytes by an instruction: one that repeats
@@ -37,3 +40,23 @@ def counted(path, given, taken):
 
 
 measured = timed if NATIVE else counted
+
+
+def compilers():
+    """The C compiler and the C++ compiler for what runs here, and the flags of the latter; each as words."""
+    tools = ["sh", "-c", '. host/tools.sh; printf "%s\\n" "$CC" "$CXX" "$cxx_flags"']
+    return [shlex.split(line) for line in subprocess.check_output(tools, cwd=ROOT, text=True).splitlines()]
+
+
+def tables():
+    """The independent program's tables, by name: the lines of each."""
+    lines, found = iter(subprocess.check_output([OUTSIDE, "tables"], text=True).splitlines()), {}
+    for header in lines:
+        name, count = header.split()
+        found[name] = [next(lines) for _ in range(int(count))]
+    return found
+
+
+def constants(arrays):
+    """A C header with constant arrays, by their type and name."""
+    return "".join(f"static const {name}[{len(values)}] = {{ {', '.join(values)} }};\n" for name, values in arrays.items())

@@ -32,7 +32,7 @@ import tempfile
 from pathlib import Path
 
 sys.path.insert(0, str(Path(__file__).resolve().parents[1]))
-from measure import NATIVE, ROOT, UNIT, measured
+from measure import NATIVE, ROOT, UNIT, compilers, measured
 
 SIZES = (16, 256, 4096)
 PLAIN = "number first"
@@ -81,8 +81,7 @@ class Programs:
 
     def __init__(self, sheet, folder):
         self.folder, self.compared, self.differ = folder, 0, 0
-        tools = ["sh", "-c", '. host/tools.sh; printf "%s\\n" "$CC" "$CXX" "$cxx_flags"']
-        cc, cxx, cxx_flags = map(shlex.split, subprocess.check_output(tools, cwd=ROOT, text=True).splitlines())
+        cc, cxx, cxx_flags = compilers()
         self.compilers = f"{shlex.join(cc)} and {shlex.join(cxx)}, -O2"
         self.paths = {name: folder / name.replace(" ", "-") for name in ("sheet", "map", *LAYOUTS)}
         # the same program to the end, also where it is built again meanwhile

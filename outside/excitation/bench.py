@@ -28,9 +28,8 @@ import tempfile
 from pathlib import Path
 
 sys.path.insert(0, str(Path(__file__).resolve().parents[1]))
-from measure import NATIVE, ROOT, UNIT, measured
+from measure import NATIVE, OUTSIDE, ROOT, UNIT, compilers, constants, measured, tables
 
-OUTSIDE = ROOT / "outside/target/release/outside"
 # few times and many, how often a run is made; for a time, many take at least LONG
 FEW, MANY, TURNS, LONG = (1, 1000, 7, 30_000_000) if NATIVE else (4, 12, 1, 0)
 # what is measured, by its delay in twelfths
@@ -52,25 +51,15 @@ def case(times, delay):
     return struct.pack("<I147iI4H", times - 1, *register, delay, *INDICES)
 
 
-def sections(text):
-    """The tables, by name: the lines of each."""
-    lines, tables = iter(text.splitlines()), {}
-    for header in lines:
-        name, count = header.split()
-        tables[name] = [next(lines) for _ in range(int(count))]
-    return tables
-
-
-def header(text):
-    """The header that plain.c includes, of the output of `outside tables`."""
-    tables = sections(text)
-    arrays = (
-        ("int8_t elements", tables["elements"]),
-        ("int32_t cg", tables["cg"]),
-        ("int32_t pg", tables["pg"]),
-        ("uint16_t delays", [line.split()[1] for line in tables["codes"]]),
-    )
-    return "".join(f"static const {name}[{len(values)}] = {{ {', '.join(values)} }};\n" for name, values in arrays)
+def header():
+    """The header that plain.c includes."""
+    found = tables()
+    return constants({
+        "int8_t elements": found["elements"],
+        "int32_t cg": found["cg"],
+        "int32_t pg": found["pg"],
+        "uint16_t delays": [line.split()[1] for line in found["codes"]],
+    })
 
 
 def plainly(path, given, taken):
@@ -85,13 +74,12 @@ class Programs:
 
     def __init__(self, subframes, folder):
         self.folder, self.compared, self.differ, self.right = folder, 0, 0, {}
-        tools = ["sh", "-c", '. host/tools.sh; printf "%s\\n" "$CC"']
-        cc = shlex.split(subprocess.check_output(tools, cwd=ROOT, text=True))
+        cc = compilers()[0]
         self.compiler = f"{shlex.join(cc)}, -O2"
         self.paths = {name: folder / name for name in ("subframes", "plain")}
         # the same program to the end, also where it is built again meanwhile
         shutil.copy(subframes, self.paths["subframes"])
-        (folder / "tables.h").write_text(header(subprocess.check_output([OUTSIDE, "tables"], text=True)))
+        (folder / "tables.h").write_text(header())
         flags = ["-std=c99", "-O2", "-Wall", "-Wextra", "-pedantic", f"-I{folder}"]
         source = Path(__file__).parent / "plain.c"
         if subprocess.run([*cc, *flags, "-o", self.paths["plain"], source], check=False).returncode:
