@@ -30,6 +30,8 @@ sys.path.insert(0, str(HERE.parent))
 from measure import NATIVE, OUTSIDE, ROOT, UNIT, compilers, constants, measured, tables
 
 USES = "gains nearest delays meanings coder lsp hertz codebook"
+# the archive is for x86-64, whatever CC is
+SIZE = "size" if NATIVE else "x86_64-linux-gnu-size"
 FEW, MANY, TURNS = (100, 10_100, 7) if NATIVE else (1, 5, 1)
 MEASURED = {
     "four delays": [(k, 13 * k % 64, (101 * k + 7) % 256, 29 * k % 64) for k in range(256)],
@@ -112,10 +114,9 @@ def main(tree=ROOT):
     if not OUTSIDE.is_file():
         sys.exit(f"{OUTSIDE} is not there")
     cc = compilers()[0]
-    prefix = Path(cc[0]).name.rpartition("-")[0]
     with tempfile.TemporaryDirectory() as folder:
         archive = archived(Path(tree).resolve(), Path(folder))
-        print(subprocess.check_output([f"{prefix}-size" if prefix else "size", archive.name], cwd=archive.parent, text=True), end="")
+        print(subprocess.check_output([SIZE, archive.name], cwd=archive.parent, text=True), end="")
         calls = Calls(cc, archive, Path(folder))
         print(f"{UNIT} a call: the archive's, and plain C ({shlex.join(cc)}, -O2)")
         print(f"{'':<24}{'ours':>8}{'C, table':>12}{'C, stretches':>14}")
