@@ -4,7 +4,7 @@ ghost use Rattle.laws.specs.Bytes.{pair_at, word_at};
 ghost use Rattle.blocks.specs.Blocks.{right_size, heading_at, block_at};
 
 // Why a recording is refused, and what is told of it: a place, and of a payload of the wrong size that size too.
-#[derive(Drop)]
+#[derive(Clone, Copy)]
 pub enum Cause {
     TooLong,
     HeaderCut(usize),
@@ -18,7 +18,7 @@ pub enum Cause {
 }
 
 // What a refusal tells: nothing, a place, or the place of a block and the size of its payload.
-#[derive(Drop)]
+#[derive(Clone, Copy)]
 pub enum Told {
     Nothing,
     Place(usize),
@@ -26,7 +26,7 @@ pub enum Told {
 }
 
 // What a head holds.
-#[derive(Drop)]
+#[derive(Clone, Copy)]
 pub struct Heading {
     pub unit: u32,
     pub number: u32,
@@ -34,7 +34,7 @@ pub struct Heading {
 
 // What stands at a place: a head, a voice block with its payload's size, an end with the number that it tells, or why there is
 // no block.
-#[derive(Drop)]
+#[derive(Clone, Copy)]
 pub enum Block {
     Head(Heading),
     Voice(usize),
@@ -44,7 +44,7 @@ pub enum Block {
 
 // A walk before the block at `at`: whether the head was passed, what it held and where the voice blocks begin after it, and how
 // many frames were passed.
-#[derive(Drop)]
+#[derive(Clone, Copy)]
 pub struct Walk {
     pub at: usize,
     pub headed: bool,
@@ -54,35 +54,35 @@ pub struct Walk {
 }
 
 // How a walk ends.
-#[derive(Drop)]
+#[derive(Clone, Copy)]
 pub enum Ending {
     Sound,
     Refused(Cause),
 }
 
 // What the blocks of a recording come to: the walk before the block at which it ends, and how it ends there.
-#[derive(Drop)]
+#[derive(Clone, Copy)]
 pub struct Walked {
     pub walk: Walk,
     pub ending: Ending,
 }
 
 // A step of a walk: past a block, or to the end.
-#[derive(Drop)]
+#[derive(Clone, Copy)]
 pub enum Moved {
     On(Walk),
     Done(Ending),
 }
 
 // A part of the bytes, from its first to the one after its last.
-#[derive(Drop)]
+#[derive(Clone, Copy)]
 pub struct Span {
     pub from: usize,
     pub to: usize,
 }
 
 // The next frame: its first byte, and how many bytes of its voice block come after it.
-#[derive(Drop)]
+#[derive(Clone, Copy)]
 pub enum Found {
     At(usize, usize),
     Nothing,

@@ -65,7 +65,7 @@ pub const BOOK: [i8; 1082] = [
 ];
 
 // What writing a code comes to.
-#[derive(Drop)]
+#[derive(Clone, Copy)]
 pub enum Written {
     Code,
     WrongLength,

@@ -74,14 +74,14 @@ fn rank_in(delay: u32, from: u32, step: u32, first: u32) -> u16
 }
 
 // What four codes mean: the delays in twelfths, or the first subframe whose code is too large.
-#[derive(Drop)]
+#[derive(Clone, Copy)]
 pub enum Meant {
     Delays(u16, u16, u16, u16),
     TooLarge(usize),
 }
 
 // The codes of four delays, or the first refusal, with its subframe.
-#[derive(Drop)]
+#[derive(Clone, Copy)]
 pub enum Coded {
     Codes(u16, u16, u16, u16),
     NotListed(u16),
@@ -90,7 +90,7 @@ pub enum Coded {
 
 // The delays of subframes 1 and 2, or 3 and 4: the rank of the first and the six-bit code of the second, or what the
 // refusal is.
-#[derive(Drop)]
+#[derive(Clone, Copy)]
 pub enum Pair {
     Inside(u8, u8),
     FirstNotListed,

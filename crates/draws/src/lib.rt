@@ -8,7 +8,7 @@ ghost use Rattle.draws.specs.Draw.{fresh_generator, draw_of, wrapped, position_o
 use std::num::wrapping_add_u16;
 
 // The five kept numbers y of 3.3.1 and two positions in them: the first is k, where each draw is kept, the second j.
-#[derive(Drop)]
+#[derive(Clone, Copy)]
 pub struct Generator {
     pub kept: [i16; 5],
     pub first: u16,
@@ -16,7 +16,7 @@ pub struct Generator {
 }
 
 // A number drawn, and the generator after it.
-#[derive(Drop)]
+#[derive(Clone, Copy)]
 pub struct Draw {
     pub value: i16,
     pub generator: Generator,

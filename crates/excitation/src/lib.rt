@@ -6,7 +6,7 @@ ghost use Rattle.excitation.specs.Register.{silent_register};
 ghost use Rattle.excitation.specs.Outcome.{refusal_of};
 
 // What went before: 147 whole numbers, the newest last.
-#[derive(Drop)]
+#[derive(Clone, Copy)]
 pub struct Register {
     pub elements: [i32; 147],
 }
@@ -23,7 +23,7 @@ impl Register {
 }
 
 // What making an excitation comes to.
-#[derive(Drop)]
+#[derive(Clone, Copy)]
 pub enum Outcome {
     Written,
     WrongLength,
@@ -48,7 +48,7 @@ impl Outcome {
 }
 
 // What it came to, and the register after.
-#[derive(Drop)]
+#[derive(Clone, Copy)]
 pub struct Excited {
     pub outcome: Outcome,
     pub register: Register,

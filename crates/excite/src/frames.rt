@@ -10,7 +10,7 @@ use passes::Hearing;
 use values::State;
 
 // Whether all lines were written, and the register after them.
-#[derive(Drop)]
+#[derive(Clone, Copy)]
 pub struct Told {
     pub written: bool,
     pub register: Register,

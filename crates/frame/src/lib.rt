@@ -7,7 +7,7 @@ ghost use Rattle.frame.specs.Steps.{entries};
 use record::Record;
 
 // Whether a frame was read. (Refusal 1: it was not eighteen bytes.)
-#[derive(Drop)]
+#[derive(Clone, Copy)]
 pub enum Verdict {
     Read,
     WrongLength,
@@ -15,7 +15,7 @@ pub enum Verdict {
 
 // What correction did in a frame: nothing; a parity bit was hit, with its correction number, and no index changed; a data bit was
 // inverted, with its field and its bit there. `parity` has the number of each case.
-#[derive(Drop)]
+#[derive(Clone, Copy)]
 pub enum Correction {
     Clean,
     Parity(usize),
@@ -23,7 +23,7 @@ pub enum Correction {
 }
 
 // What is read in a frame: the record after correction, what correction did, and the order mark; all 0 and clean where it was refused.
-#[derive(Drop)]
+#[derive(Clone, Copy)]
 pub struct Reading {
     pub verdict: Verdict,
     pub indices: Record,
@@ -32,7 +32,7 @@ pub struct Reading {
 }
 
 // What a record to write gets: the frame, or the refusal with what it tells.
-#[derive(Drop)]
+#[derive(Clone, Copy)]
 pub enum Written {
     Frame,
     WrongLength,

@@ -22,7 +22,7 @@ pub const PG: [i16; 32] = [
 ];
 
 // The gain of an index, or that the index is too large for its field.
-#[derive(Drop)]
+#[derive(Clone, Copy)]
 pub enum Gain {
     Value(i32),
     TooLarge,

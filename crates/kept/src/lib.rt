@@ -10,7 +10,7 @@ ghost use Rattle.kept.specs.Steps.{reach_of, fewer_of, keep_by, plan_by};
 use blocks::{Cause, Ending, Heading, Walk};
 
 // Why nothing can be written: the recording is too long, the buffer is not 65,536 bytes, there is no head, no whole frame.
-#[derive(Drop)]
+#[derive(Clone, Copy)]
 pub enum Unsalvaged {
     TooLong,
     WrongBuffer,
@@ -20,7 +20,7 @@ pub enum Unsalvaged {
 
 // What is to be written: the head, the frames in all, and how many of them are the first ones of the block at `at`, which runs past
 // the end; and whether the recording was sound.
-#[derive(Drop)]
+#[derive(Clone, Copy)]
 pub struct Keep {
     pub heading: Heading,
     pub frames: u32,
@@ -30,7 +30,7 @@ pub struct Keep {
 }
 
 // What is to be written, or why nothing is.
-#[derive(Drop)]
+#[derive(Clone, Copy)]
 pub enum Plan {
     Written(Keep),
     Nothing(Unsalvaged),

@@ -11,7 +11,7 @@ use frame::Correction;
 
 // What is said of a frame: its number, what correction did, and its order mark, SY and four delays; or, where it is not 0, the
 // refusal of its values.
-#[derive(Drop)]
+#[derive(Clone, Copy)]
 pub struct Said {
     pub number: u32,
     pub correction: Correction,
@@ -26,7 +26,7 @@ pub struct Said {
 
 // A line: the first, with how many frames follow it; that of a frame; the last, with the repaired frames and the breaks; and the
 // one line of a refused recording.
-#[derive(Drop)]
+#[derive(Clone, Copy)]
 pub enum Line {
     Head(Heading, u32),
     Frame(Said),
@@ -35,7 +35,7 @@ pub enum Line {
 }
 
 // A line as it is to be laid: the first bytes of its form, in which each byte below 8 stands for the number at that place.
-#[derive(Drop)]
+#[derive(Clone, Copy)]
 pub struct Form {
     pub bytes: [u8; 28],
     pub size: usize,

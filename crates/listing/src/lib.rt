@@ -14,7 +14,7 @@ use passes::{Hearing, Pass};
 use values::State;
 
 // The length of the text that was laid, or that the buffer was not 131,072 bytes.
-#[derive(Drop)]
+#[derive(Clone, Copy)]
 pub enum Listed {
     Text(usize),
     WrongLength,

@@ -4,14 +4,14 @@ ghost use Rattle.std.specs.Prelude.{◌≡◌};
 ghost use Rattle.lsp.specs.Order.{mark_of};
 
 // Whether each index fits its bits, or the lowest LSP whose index is too large.
-#[derive(Drop)]
+#[derive(Clone, Copy)]
 pub enum Verdict {
     Within,
     TooLarge(usize),
 }
 
 // Ten LSPs in Hz; all are 0 where an index was refused.
-#[derive(Drop)]
+#[derive(Clone, Copy)]
 pub struct Hertz {
     pub verdict: Verdict,
     pub hz: [u16; 10],

@@ -6,7 +6,7 @@ ghost use Rattle.pairs.specs.Pairs.{with_pair, bytes_of, bytes_left, record_in, 
 use record::Record;
 
 // The record in some bytes, and whether they are whole: of bytes that are not 56 no index is taken, and all are 0.
-#[derive(Drop)]
+#[derive(Clone, Copy)]
 pub struct Taken {
     pub whole: bool,
     pub indices: Record,

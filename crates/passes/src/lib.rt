@@ -9,14 +9,14 @@ use frame::Reading;
 use values::{State, Values};
 
 // Repaired frames and sync breaks.
-#[derive(Drop)]
+#[derive(Clone, Copy)]
 pub struct Counts {
     pub repaired: u32,
     pub breaks: u32,
 }
 
 // What is heard of a frame: what was read in it, and the values of what was read. Where there is no frame, the outcome is `Nothing`.
-#[derive(Drop)]
+#[derive(Clone, Copy)]
 pub struct Hearing {
     pub reading: Reading,
     pub values: Values,
@@ -24,7 +24,7 @@ pub struct Hearing {
 
 // A pass through the frames: the place of the next one, how many bytes of its voice block are left there, how many frames were
 // passed, their counts, and the state after them.
-#[derive(Drop)]
+#[derive(Clone, Copy)]
 pub struct Pass {
     pub at: usize,
     pub left: usize,
@@ -34,7 +34,7 @@ pub struct Pass {
 }
 
 // One frame of a pass, and the pass after it.
-#[derive(Drop)]
+#[derive(Clone, Copy)]
 pub struct Step {
     pub hearing: Hearing,
     pub pass: Pass,

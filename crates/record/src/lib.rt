@@ -5,7 +5,7 @@ ghost use Rattle.std.specs.Prelude.{◌≡◌};
 ghost use Rattle.record.specs.Fields.{indices_of, too_large_field};
 
 // All fields are 16 bits, so that an index too large for its field is still there to be reported.
-#[derive(Drop)]
+#[derive(Clone, Copy)]
 pub struct Record {
     pub lsp: [u16; 10],
     pub subframes: [u16; 16],

@@ -13,14 +13,14 @@ use passes::{Counts, Hearing, Pass};
 use values::State;
 
 // A sound recording told in numbers: what its head tells, how many frames it has, and their counts.
-#[derive(Drop)]
+#[derive(Clone, Copy)]
 pub struct Summary {
     pub heading: Heading,
     pub frames: u32,
     pub counts: Counts,
 }
 
-#[derive(Drop)]
+#[derive(Clone, Copy)]
 pub enum Judged {
     Sound(Summary),
     Refused(Cause),

@@ -7,7 +7,7 @@ use kept::Unsalvaged;
 
 // What was changed: how many bytes were dropped and from where, how many frames were kept, where the end block was written, and the
 // length of the result.
-#[derive(Drop)]
+#[derive(Clone, Copy)]
 pub struct Changes {
     pub dropped: usize,
     pub from: usize,
@@ -17,7 +17,7 @@ pub struct Changes {
 }
 
 // A sound recording, unchanged; a mended one with its changes; or why nothing was written.
-#[derive(Drop)]
+#[derive(Clone, Copy)]
 pub enum Salvaged {
     Sound,
     Mended(Changes),

@@ -1,7 +1,7 @@
 // What a call answers, and its line.
 use libc::STDOUT_FILENO;
 
-#[derive(Drop)]
+#[derive(Clone, Copy)]
 pub enum Said {
     Entered(i32),
     Recording(i32, usize, usize, usize, usize, usize),

@@ -13,7 +13,7 @@ use blocks::Cause;
 pub const WORDS: usize = 12289;
 
 // What is entered: the unit and the number of a recording, which are its key, and the count that was spoken.
-#[derive(Drop)]
+#[derive(Clone, Copy)]
 pub struct Entry {
     pub unit: u32,
     pub number: u32,
@@ -21,7 +21,7 @@ pub struct Entry {
 }
 
 // The count that is held under a key, or that the key is not held.
-#[derive(Drop)]
+#[derive(Clone, Copy)]
 pub enum Holding {
     Count(u32),
     Nothing,
@@ -29,7 +29,7 @@ pub enum Holding {
 
 // What entering comes to: entered, or already held with the same count; or refused, since the key is held with another
 // count, or since the book is full and the key is new.
-#[derive(Drop)]
+#[derive(Clone, Copy)]
 pub enum Tallied {
     Entered,
     AlreadyHeld,
@@ -38,7 +38,7 @@ pub enum Tallied {
 }
 
 // What entering a recording comes to: as entering, or why the recording is refused.
-#[derive(Drop)]
+#[derive(Clone, Copy)]
 pub enum Entering {
     Done(Tallied),
     Refused(Cause),

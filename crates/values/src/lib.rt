@@ -5,7 +5,7 @@ ghost use Rattle.values.specs.Outcome.{refusal_of};
 ghost use Rattle.values.specs.Values.{fresh_state, refused_values, nothing_heard};
 
 // The SY of the frame before, or that there was none.
-#[derive(Drop)]
+#[derive(Clone, Copy)]
 pub enum LastSy {
     Never,
     Was(u16),
@@ -13,7 +13,7 @@ pub enum LastSy {
 
 // What is kept from frame to frame: whether a frame was heard, the LSPs in Hz of the last that was, and the SY of the last frame,
 // heard or refused with 6.
-#[derive(Drop)]
+#[derive(Clone, Copy)]
 pub struct State {
     pub begun: bool,
     pub hz: [u16; 10],
@@ -34,7 +34,7 @@ impl State {
 }
 
 // Whether a record has values, or its refusal with what it tells, or that there was no record.
-#[derive(Drop)]
+#[derive(Clone, Copy)]
 pub enum Outcome {
     Heard,
     TooLarge(usize),
@@ -58,7 +58,7 @@ impl Outcome {
 
 // What a record says, subframe 1 first; PG in thousandths, delays in twelfths of a sample, averages in eighths of a Hz.
 // Where nothing was heard all are 0.
-#[derive(Drop)]
+#[derive(Clone, Copy)]
 pub struct Values {
     pub outcome: Outcome,
     pub cg: [i32; 4],
