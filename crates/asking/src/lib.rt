@@ -1,4 +1,6 @@
 // What a tally book holds under a key: the row that has it, and the count in that row.
+#![tactic(auto)]
+
 ghost use Rattle.std.specs.Prelude.{◌≡◌};
 ghost use Rattle.tally.specs.Tally.{holding_in};
 ghost use Rattle.tally.specs.Book.{entries_of};

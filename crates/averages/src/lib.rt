@@ -1,4 +1,6 @@
 // The averages of two frames' LSPs in the four subframes (3.7), in whole eighths of a Hz.
+#![tactic(auto)]
+
 ghost use Rattle.std.specs.Prelude.{◌≡◌, ◌≤◌};
 ghost use Rattle.lsp.specs.Average.{average_of, averages_of};
 

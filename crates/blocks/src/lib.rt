@@ -1,4 +1,6 @@
 // The blocks of a recording: what stands at a place of its bytes, why there is no block there, and the types of a walk through them.
+#![tactic(auto)]
+
 ghost use Rattle.std.specs.Prelude.{◌≡◌, ◌+◌, ◌≤◌, ◌<◌, length, get_or};
 ghost use Rattle.laws.specs.Bytes.{pair_at, word_at};
 ghost use Rattle.blocks.specs.Blocks.{right_size, heading_at, block_at};

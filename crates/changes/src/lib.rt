@@ -1,5 +1,7 @@
 // What a salvaged recording's changes are told in: a line each, in order, and only where there is such a change. A sound recording has
 // none, and a refusal is one line. Lines are laid into a lent buffer as `text` lays words.
+#![tactic(auto)]
+
 ghost use Rattle.std.specs.Prelude.{◌≡◌};
 ghost use Rattle.text.specs.Laid.{laid, after};
 ghost use Rattle.lines.specs.Forms.{form_text};

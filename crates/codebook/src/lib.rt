@@ -1,5 +1,7 @@
 // The ternary codes of 3.3: the 1,082 elements, and the 512 codes cut out of them.
 // Code n is sixty elements of the book, two further on than those of code n + 1.
+#![tactic(auto)]
+
 ghost use Rattle.std.specs.Prelude.{◌≡◌, ◌≤◌, length};
 ghost use Rattle.codebook.specs.Book.{book};
 ghost use Rattle.codebook.specs.Code.{code_of, written_of, code_left};

@@ -1,4 +1,6 @@
 // The coder of delays: four delays in twelfths to the four codes that are sent (3.5.4, 3.5.5), or a refusal.
+#![tactic(auto)]
+
 ghost use Rattle.std.specs.Prelude.{◌≡◌};
 ghost use Rattle.delays.specs.Table.{bytes};
 ghost use Rattle.delays.specs.Codes.{coded_of};

@@ -1,5 +1,7 @@
 // Decimal numbers laid into a lent buffer, as `text` lays words: each put answers the position after what it laid, held at
 // the buffer's end. What has no room is left out, and no other byte changes.
+#![tactic(auto)]
+
 ghost use Rattle.std.specs.Prelude.{◌≡◌, length};
 ghost use Rattle.text.specs.Laid.{laid, after};
 ghost use Rattle.text.specs.Decimal.{decimal};

@@ -1,5 +1,7 @@
 // The decoder: a record and the state before it, to what the record says and the state after.
 // A record with an index too large is refused, and leaves the state as it came; one whose SP is 1 is refused, and leaves its SY there.
+#![tactic(auto)]
+
 ghost use Rattle.std.specs.Prelude.{◌≡◌};
 ghost use Rattle.values.specs.Values.{sync_state, values_of};
 

@@ -1,6 +1,8 @@
 // The adaptive code's delays: 256 of them, known by their rank, each with its twelfths of a sample and its printed byte
 // (3.5.4), and the window of 64 ranks in which subframes 2 and 4 code theirs (3.5.5).
 // `coder` answers the codes of delays, `meanings` the delays of codes.
+#![tactic(auto)]
+
 ghost use Rattle.std.specs.Prelude.{◌≡◌, ◌-◌, ◌≤◌};
 ghost use Rattle.delays.specs.Table.{twelfths_of, rank_with};
 ghost use Rattle.delays.specs.Codes.{base_of};

@@ -1,5 +1,7 @@
 // The draws that the code book of 3.3 was made of: the function `random` of 3.3.1, a draw at a time.
 // A generator is five kept numbers and two positions in them; a draw is kept at the first, and both move one down.
+#![tactic(auto)]
+
 ghost use Rattle.std.specs.Prelude.{◌≡◌, ◌≤◌, ◌+ℤ◌};
 ghost use Rattle.std.specs.Int.{w16};
 ghost use Rattle.std.proofs.Common.{of_z, to_z};

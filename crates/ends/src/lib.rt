@@ -1,5 +1,7 @@
 // Both ends of a recording, its head and its end block, laid as bytes into a lent buffer. Each put answers the position after what it
 // laid, as those of `text` do.
+#![tactic(auto)]
+
 ghost use Rattle.std.specs.Prelude.{◌≡◌};
 ghost use Rattle.text.specs.Laid.{laid, after};
 ghost use Rattle.blocks.specs.Made.{head_block, end_block};

@@ -1,5 +1,7 @@
 // Entering into a tally book: an entry, or a recording with the count that was spoken in it, and each key once.
 // What is refused or already held leaves every word of the book as it was.
+#![tactic(auto)]
+
 ghost use Rattle.std.specs.Prelude.{◌≡◌};
 ghost use Rattle.tally.specs.Book.{entries_in, tallied, book_then};
 ghost use Rattle.tally.specs.Steps.{tally_or_full, appended};

@@ -1,6 +1,8 @@
 // Runs functions of the C boundary, and the functions of recordings, values and corrections at places that no recording leads to,
 // on the cases that stand on standard input, and prints what each answers. outside/CASES.md says how a case is laid out
 // and what is printed of it.
+#![tactic(auto)]
+
 mod boundary;
 mod corrections;
 mod hearing;

@@ -1,6 +1,8 @@
 // What the excitation of a subframe is (document 02, K6), as definitions with their laws: the adaptive code, read from the register of
 // what went before, and the ternary code, mixed by their gains; and the register after it. Here are the register, the outcomes, and
 // what each answers; `exciter` makes the excitation.
+#![tactic(auto)]
+
 ghost use Rattle.std.specs.Prelude.{◌≡◌};
 ghost use Rattle.excitation.specs.Register.{silent_register};
 ghost use Rattle.excitation.specs.Outcome.{refusal_of};

@@ -1,4 +1,6 @@
 // Prints the excitation of each subframe of one recording from standard input. outside/CASES.md has the lines.
+#![tactic(auto)]
+
 mod frames;
 mod line;
 

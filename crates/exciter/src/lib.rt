@@ -1,5 +1,7 @@
 // Makes the excitation of a subframe (document 02, K6): the adaptive code from the register, the ternary code mixed into it, and the
 // register after it. What each of them is says `excitation`; an element is `mixing`'s, one after the other.
+#![tactic(auto)]
+
 ghost use Rattle.std.specs.Prelude.{◌≡◌, ◌≤◌, pos, length, get_or};
 ghost use Rattle.excitation.specs.Register.{holding, moved_by};
 ghost use Rattle.excitation.specs.Excitation.{adaptive_of, mixed_of, mixed_by, excitation_of};

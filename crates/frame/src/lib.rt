@@ -1,6 +1,8 @@
 // A frame: the table of 3.8.2, and what reading and writing answer.
 // `reader` and `packer` follow the table one place at a time. Between the bytes and the record the indices stand in one list by
 // field number, the four parity bits HP-0 to HP-3 under 0.
+#![tactic(auto)]
+
 ghost use Rattle.std.specs.Prelude.{◌≡◌};
 ghost use Rattle.frame.specs.Steps.{entries};
 

@@ -1,5 +1,7 @@
 // Gains: the stochastic code gain CG (3.4) and the adaptive code gain PG (3.6), which is kept in thousandths.
 // A gain's index goes to its table entry.
+#![tactic(auto)]
+
 ghost use Rattle.std.specs.Prelude.{◌≡◌};
 ghost use Rattle.gains.specs.Gains.{gain_of, cg_of, pg_of};
 

@@ -1,5 +1,7 @@
 // The C boundary: the frame reader and the frame writer on plain byte buffers, as include/oatlantern.h declares them.
 // A record is 56 bytes, each index a pair of them, the lower half first. Results are numbers: a refusal is minus its number.
+#![tactic(auto)]
+
 ghost use Rattle.std.specs.Prelude.{◌≡◌, length};
 ghost use Rattle.frame.specs.Answers.{refusal_of};
 ghost use Rattle.verdicts.specs.Verdicts.{refused};

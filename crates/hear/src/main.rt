@@ -1,5 +1,7 @@
 // Prints what is heard of one recording from standard input: each frame with what was read in it and its values under
 // the running state, and where the voice blocks stand. outside/CASES.md has the lines.
+#![tactic(auto)]
+
 mod frames;
 mod line;
 

@@ -1,5 +1,7 @@
 // What is heard of a record that is not refused, after the state before it: gains, delays, averages, mark and the state after.
 // An index that is too large has no value: its gain is 0, and so are all delays or all LSPs in Hz.
+#![tactic(auto)]
+
 ghost use Rattle.std.specs.Prelude.{◌≡◌, ◌<◌};
 ghost use Rattle.gains.specs.Gains.{gain_of};
 ghost use Rattle.values.specs.Values.{value_in, indices_at, gains_of, delays_of, heard_state, previous_of, heard_values};

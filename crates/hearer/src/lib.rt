@@ -1,5 +1,7 @@
 // What a record says, and where the frames of a recording stand, for C, as include/oatlantern.h declares them. A state is lent as
 // numbers: three of sync, whether a frame was heard, whether there was a last SY, and that SY; and the ten LSPs in Hz.
+#![tactic(auto)]
+
 ghost use Rattle.std.specs.Prelude.{◌≡◌, cond, [], ◌∷◌, ◌≤◌, pos};
 ghost use Rattle.blocks.specs.Frames.{span_of};
 ghost use Rattle.hearer.specs.Hearing.{last_in, state_in, sync_of, values_in, refusal_in, hear_result, if_heard, if_kept};

@@ -1,5 +1,7 @@
 // The ten line spectral parameters of 3.7, from their indices to Hz.
 // LSP j stands at place j - 1 of a list of ten; all values are 16 bits.
+#![tactic(auto)]
+
 ghost use Rattle.std.specs.Prelude.{◌≡◌, T};
 ghost use Rattle.laws.specs.Tabulate.{tabulate};
 ghost use Rattle.lsp.specs.Table.{as_printed, too_large_field, hz_at, hertz_of};

@@ -1,5 +1,7 @@
 // Standard input, read into a lent buffer. What is read is the operating system's to say: no contract can, and this one
 // says only that the count lies within the buffer.
+#![tactic(auto)]
+
 ghost use Rattle.std.specs.Prelude.{◌≤◌, length};
 ghost use Rattle.input.specs.Input.{count_read};
 

@@ -1,5 +1,7 @@
 // What can be kept of a damaged recording: its head, its voice blocks before the first refusal and the whole frames of one that runs
 // past the end, as many as fit with a fresh end.
+#![tactic(auto)]
+
 ghost use Rattle.std.specs.Prelude.{◌≡◌, ◌+◌, ◌-◌, ◌*◌, ◌≤◌, ◌<◌, length};
 ghost use Rattle.blocks.specs.Walk.{longest, walked_of};
 ghost use Rattle.blocks.specs.declared.Ending.TheVariants.{Refused};

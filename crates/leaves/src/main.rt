@@ -1,6 +1,8 @@
 // Runs the leaf functions on the cases that stand on standard input and prints a number for the answer to each; or, for
 // a benchmark, goes through them many times and prints the sum alone. outside/CASES.md says how a case is laid out and
 // what its number is.
+#![tactic(auto)]
+
 mod case;
 mod code;
 mod delay;

@@ -1,4 +1,6 @@
 // The tally book for C, as include/oatlantern.h declares it. A book is lent as it stands in `tally`: 12,289 words.
+#![tactic(auto)]
+
 ghost use Rattle.std.specs.Prelude.{◌≡◌};
 ghost use Rattle.verdicts.specs.Verdicts.{recording_told};
 ghost use Rattle.tally.specs.Tally.{holding_in, total_in};

@@ -1,5 +1,7 @@
 // Runs salvaging and listing for C over a case on standard input, and shows all that they were lent: of each the numbers, and then
 // every byte of the buffer. outside/CASES.md has the form of a case.
+#![tactic(auto)]
+
 ghost use Rattle.std.specs.Prelude.{◌≤◌, length};
 
 use input::Input;

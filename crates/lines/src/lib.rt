@@ -1,5 +1,7 @@
 // The lines of a listing, and any line that is a form and its numbers, laid into a lent buffer as `text` lays words: each put answers
 // the position after its line, held at the buffer's end. What has no room is left out, and no other byte changes.
+#![tactic(auto)]
+
 ghost use Rattle.std.specs.Prelude.{◌≡◌, [], ◌∷◌};
 ghost use Rattle.text.specs.Laid.{laid, after};
 ghost use Rattle.lines.specs.Lines.{head_line, letter_of, frame_line, last_line, numbers_shown};

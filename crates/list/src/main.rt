@@ -1,4 +1,6 @@
 // Lists one recording from standard input: the listing, or the one line of its refusal, to standard output.
+#![tactic(auto)]
+
 use input::Input;
 use libc::{STDERR_FILENO, STDOUT_FILENO};
 use listing::Listed;

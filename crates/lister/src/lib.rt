@@ -1,4 +1,6 @@
 // A listing for C, as include/oatlantern.h declares it.
+#![tactic(auto)]
+
 ghost use Rattle.std.specs.Prelude.{◌≡◌, length};
 ghost use Rattle.listing.specs.Listing.{listed_of, listing_left};
 ghost use Rattle.lister.specs.Results.{list_result, end_left, numbers_left};

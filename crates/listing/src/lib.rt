@@ -1,5 +1,7 @@
 // The listing of a recording: its text, byte for byte, laid into a lent buffer.
 // Each put lays its lines after the last one, as far as there is room; that the whole text has room is asked once, of the listing.
+#![tactic(auto)]
+
 ghost use Rattle.std.specs.Prelude.{◌≡◌, ◌≤◌, length};
 ghost use Rattle.text.specs.Laid.{laid, after};
 ghost use Rattle.blocks.specs.Walk.{walked_of};

@@ -1,5 +1,7 @@
 // The ten line spectral parameters of 3.7: what their indices come to in Hz, which `hertz` answers, and the order mark of ten.
 // LSP j stands at place j - 1 of a list of ten; all values are 16 bits.
+#![tactic(auto)]
+
 ghost use Rattle.std.specs.Prelude.{◌≡◌};
 ghost use Rattle.lsp.specs.Order.{mark_of};
 

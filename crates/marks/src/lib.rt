@@ -1,4 +1,6 @@
 // The order mark of a record.
+#![tactic(auto)]
+
 ghost use Rattle.std.specs.Prelude.{◌≡◌};
 ghost use Rattle.frame.specs.Answers.{record_mark};
 

@@ -1,4 +1,6 @@
 // What the codes of four subframes mean: their delays in twelfths (3.5.4, 3.5.5). The table is taken once in a call and lent on.
+#![tactic(auto)]
+
 ghost use Rattle.std.specs.Prelude.{◌≡◌, ◌≤◌};
 ghost use Rattle.laws.specs.Tabulate.{tabulate};
 ghost use Rattle.delays.specs.Table.{twelfths_of, rank_of};

@@ -1,4 +1,6 @@
 // Salvaging for C, as include/oatlantern.h declares it.
+#![tactic(auto)]
+
 ghost use Rattle.std.specs.Prelude.{◌≡◌, length};
 ghost use Rattle.salvage.specs.Salvaging.{salvage_of, buffer_of};
 ghost use Rattle.mender.specs.Results.{salvage_result, changes_left};

@@ -1,5 +1,7 @@
 // One element of the excitation (document 02, K6): the exact sum of two products in thousandths, rounded once and held.
 // Any four numbers of these widths have an element: 64 bits have room for each product and for the sum.
+#![tactic(auto)]
+
 ghost use Rattle.std.specs.Prelude.{◌≡◌, ◌≤◌, ◌^◌, ◌*ℤ◌};
 ghost use Rattle.mixing.specs.Mixing.{sum_of, whole_size, whole_of, element_of};
 

@@ -1,4 +1,6 @@
 // Any signed 32-bit number to the index of the gain nearest to it, CG (3.4) or PG (3.6).
+#![tactic(auto)]
+
 ghost use Rattle.std.specs.Prelude.{◌≡◌, ◌≤◌, ◌<◌, length};
 ghost use Rattle.gains.specs.Tables.{cg_table, pg_table};
 ghost use Rattle.gains.specs.Nearest.{apart, nearest_of};

@@ -1,5 +1,7 @@
 // The frame of a record: 18 bytes, with their parity.
 // The indices are put in one list by field number, the four parity bits under 0, and sent by the table of 3.8.2.
+#![tactic(auto)]
+
 ghost use Rattle.std.specs.Prelude.{◌≡◌, ◌<◌, length, get_or};
 ghost use Rattle.laws.specs.Total.{from_bits};
 ghost use Rattle.frame.specs.Frame.{place_at, sent, frame_of};

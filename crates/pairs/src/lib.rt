@@ -1,4 +1,6 @@
 // A record as the bytes of the C boundary: 56 of them, each index a pair, the lower half first.
+#![tactic(auto)]
+
 ghost use Rattle.std.specs.Prelude.{◌≡◌, ◌+◌, ◌<◌, eqb, length};
 ghost use Rattle.laws.specs.Bytes.{pair_at};
 ghost use Rattle.pairs.specs.Pairs.{with_pair, bytes_of, bytes_left, record_in, taken_of};

@@ -1,5 +1,7 @@
 // Parity and correction (3.9), on a list of indices by field number, the four parity bits HP-0 to HP-3 under 0: the correction number
 // of a list, the case that a number means and the number of a case, and what a correction changes.
+#![tactic(auto)]
+
 ghost use Rattle.std.specs.Prelude.{◌≡◌};
 ghost use Rattle.frame.specs.Correction.{correction_of, data_number, number_of_case};
 ghost use Rattle.frame.specs.Steps.{guarded_entries, number_in, inverting, mended_fields};

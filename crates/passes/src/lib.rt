@@ -1,6 +1,8 @@
 // A pass through the frames of a recording in order. It stands before a frame and keeps the counts and the state of those that it has
 // passed; one step hears the next frame with that state, and takes the pass past it. Here is where a pass begins; a step is made by
 // `steps`.
+#![tactic(auto)]
+
 ghost use Rattle.std.specs.Prelude.{◌≡◌};
 ghost use Rattle.passes.specs.Pass.{begun_at, start_of};
 

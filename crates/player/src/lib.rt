@@ -1,4 +1,6 @@
 // The excitation of a subframe for C, as include/oatlantern.h declares it.
+#![tactic(auto)]
+
 ghost use Rattle.std.specs.Prelude.{◌≡◌, length};
 ghost use Rattle.verdicts.specs.Verdicts.{refused};
 ghost use Rattle.excitation.specs.Register.{holding};

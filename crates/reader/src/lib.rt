@@ -1,6 +1,8 @@
 // Reading a frame: 18 bytes to an index record with correction.
 // The table of 3.8.2 is followed one place at a time. Between the bytes and the record the indices stand in one list by field
 // number, the four parity bits under 0, as `parity` corrects it.
+#![tactic(auto)]
+
 ghost use Rattle.std.specs.Prelude.{◌≡◌, ◌+◌, ◌*◌, ◌<◌, length};
 ghost use Rattle.laws.specs.Tabulate.{tabulate};
 ghost use Rattle.frame.specs.Frame.{bit_at, index_in};

@@ -1,6 +1,8 @@
 // The index record: the 28 fields that a frame carries, kept as document 01 numbers them.
 // Fields 1 to 10 are the ten parameters, 11 to 26 the sixteen subframe indices (PD, PG, CI, CG of subframes 1 to 4),
 // 27 the expansion bit SP, 28 the synchronization bit SY.
+#![tactic(auto)]
+
 ghost use Rattle.std.specs.Prelude.{◌≡◌};
 ghost use Rattle.record.specs.Fields.{indices_of, too_large_field};
 

@@ -1,4 +1,6 @@
 // What is said of a whole recording: its counts or its refusal, and each frame heard after all the frames before it.
+#![tactic(auto)]
+
 ghost use Rattle.std.specs.Prelude.{◌≡◌, suc};
 ghost use Rattle.values.specs.Values.{fresh_state};
 ghost use Rattle.blocks.specs.Walk.{walked_of};

@@ -1,4 +1,6 @@
 // The refusals of a recording: the number of each cause, and what it tells.
+#![tactic(auto)]
+
 ghost use Rattle.std.specs.Prelude.{◌≡◌};
 ghost use Rattle.blocks.specs.Refusals.{refusal_of, told_of};
 

@@ -1,5 +1,7 @@
 // Writes what can be kept of a damaged recording as a good one: its head, the frames that are kept in their blocks, and a fresh end.
 // Each kept block stands where it stood, so the end block is written where the dropped bytes began.
+#![tactic(auto)]
+
 ghost use Rattle.std.specs.Prelude.{◌≡◌, ◌++◌, ◌≤◌, length};
 ghost use Rattle.text.specs.Laid.{laid, after};
 ghost use Rattle.blocks.specs.Walk.{longest, after_head};

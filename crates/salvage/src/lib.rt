@@ -1,5 +1,7 @@
 // What salvaging writes and answers, as definitions with their laws: what can be kept of a damaged recording as a good one, and what
 // was changed. Here is the answer; `restorer` writes.
+#![tactic(auto)]
+
 ghost use Rattle.std.specs.Prelude.{◌≡◌};
 ghost use Rattle.salvage.specs.Steps.{changes_by, answer_by};
 

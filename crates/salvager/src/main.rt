@@ -1,5 +1,7 @@
 // Salvages one recording from standard input: what can be kept of it, as a good recording, to standard output, and what was changed, a
 // line each, to standard error. A refusal is one line there, and nothing is written.
+#![tactic(auto)]
+
 ghost use Rattle.std.specs.Prelude.{◌≡◌};
 ghost use Rattle.salvage.specs.Salvaging.{long_of};
 

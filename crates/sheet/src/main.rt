@@ -1,5 +1,7 @@
 // Makes the calls that stand on standard input on one tally book, which is empty at first, and prints what each
 // answers. outside/CASES.md has the form of a call and its line.
+#![tactic(auto)]
+
 mod call;
 mod said;
 mod words;

@@ -1,4 +1,6 @@
 // A step of a pass: the next frame is heard with the state so far and counted, and the pass goes past it.
+#![tactic(auto)]
+
 ghost use Rattle.std.specs.Prelude.{◌≡◌, ◌≤◌};
 ghost use Rattle.blocks.specs.Walk.{longest};
 ghost use Rattle.passes.specs.Counted.{repair_of, breaks_at, break_of, counting_of};

@@ -1,5 +1,7 @@
 // Makes the excitation of the subframes that stand on standard input, by the function for C, and prints what each answers and leaves.
 // outside/CASES.md says how a case is laid out and what is printed of it.
+#![tactic(auto)]
+
 mod case;
 
 use libc::{STDIN_FILENO, STDOUT_FILENO};

@@ -3,6 +3,8 @@
 // units and the counts. Any words are a book, and a book whose first word is 0 is empty.
 // Here is what a book and an entry are, and what is asked of a book as a whole; `asking` tells what is held under a key,
 // and `entering` enters entries and recordings.
+#![tactic(auto)]
+
 ghost use Rattle.std.specs.Prelude.{◌≡◌, ◌≤◌};
 ghost use Rattle.tally.specs.Tally.{number_of, total_in};
 ghost use Rattle.tally.specs.Book.{entries_in, entries_of, emptied};

@@ -1,5 +1,7 @@
 // Bytes and words laid into a lent buffer, one after the other. Each put answers the position after what it laid, held at
 // the buffer's end. What has no room is left out, and no other byte changes.
+#![tactic(auto)]
+
 ghost use Rattle.std.specs.Prelude.{◌≡◌, [], ◌∷◌, min};
 ghost use Rattle.text.specs.Laid.{laid, after};
 

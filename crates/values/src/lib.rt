@@ -1,5 +1,7 @@
 // What a record says: its gains, delays, averages and order mark, from the record and the state before it, with the
 // state after. The decoder answers them; here is what they are, the state before the first frame, and what there is without a record.
+#![tactic(auto)]
+
 ghost use Rattle.std.specs.Prelude.{◌≡◌};
 ghost use Rattle.values.specs.Outcome.{refusal_of};
 ghost use Rattle.values.specs.Values.{fresh_state, refused_values, nothing_heard};

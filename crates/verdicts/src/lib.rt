@@ -1,4 +1,6 @@
 // The verdict on a recording in numbers, as the functions for C answer it: 0, or minus the number of the refusal, and what is told.
+#![tactic(auto)]
+
 ghost use Rattle.std.specs.Prelude.{◌≡◌};
 ghost use Rattle.verdicts.specs.Verdicts.{minus_of, verdict_of, cause_number, refusal_told, recording_told};
 ghost use Rattle.blocks.specs.Refusals.{told_of};

@@ -1,4 +1,6 @@
 // The voice blocks of a recording, by their number, and where the frames in them stand, one after the other.
+#![tactic(auto)]
+
 ghost use Rattle.std.specs.Prelude.{◌≡◌, get_or};
 ghost use Rattle.blocks.specs.Frames.{voice_size, spans_from, nowhere, span_of, voice_block_of, bytes_on, found_at};
 

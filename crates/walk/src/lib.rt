@@ -1,5 +1,7 @@
 // The walk through the blocks of a recording, one after the other, to its answer or its refusal.
 // A walk comes to a place of the bytes and knows what it has passed; what stands there takes it on or ends it.
+#![tactic(auto)]
+
 ghost use Rattle.std.specs.Prelude.{◌≡◌, ◌+◌, ◌*◌, ◌≤◌, length};
 ghost use Rattle.blocks.specs.Walk.{longest, refuse, at_head, at_voice, ending_at, step_of, walk_from, walked_of};
 ghost use Rattle.blocks.specs.declared.Moved.TheVariants.{Done};

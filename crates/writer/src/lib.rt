@@ -1,4 +1,6 @@
 // Writing a frame: an index record to 18 bytes, or a refusal.
+#![tactic(auto)]
+
 ghost use Rattle.std.specs.Prelude.{◌≡◌, length};
 ghost use Rattle.frame.specs.Answers.{written_of, frame_left};
 
