@@ -16,6 +16,7 @@ pub mod Turns
 pub mod Front
 pub mod Cases
 pub mod Chosen
+pub mod Clauses
 pub mod Wide
 pub mod Unless
 pub mod Taken
