@@ -1,0 +1,24 @@
+use mathlib.Core.Logic.{⊎_elim}
+use Prim.Native.Nat.{◌-◌}
+use native.Mathlib.Omega.{arith}
+use borrow.Author.Rules.{rules}
+use Rattle.tally.proofs.Rows.{Seeking, seeking, sought_found, sought_number, sought_unit, sought_none}
+use Rattle.asking.proofs.row_of.Goals as goal
+
+pub entries-end-requires : goal.entries-end-requires
+entries-end-requires c = search rules
+
+pub loop-row-init : goal.loop-row-init
+loop-row-init c = seeking _ _ _ _ c.entries-end.ensures
+
+pub returns-then-book-unit_at : goal.returns-then-book-unit_at
+returns-then-book-unit_at c =
+    sought_found c.loop-row.invariant (omega arith) (omega arith) (omega arith)
+
+pub loop-row-preserved : goal.loop-row-preserved
+loop-row-preserved c =
+    let a = c.loop-row.invariant in ⊎_elim (λ w. sought_unit a (omega arith) (omega arith) (λ q. omega arith))
+    (λ w. sought_number a (omega arith) (λ q. omega arith)) c.if-book-number_at.branch
+
+pub returns : goal.returns
+returns c = sought_none c.loop-row.invariant (omega arith)

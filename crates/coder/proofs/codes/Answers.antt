@@ -1,0 +1,50 @@
+-- `coder::codes` meets its contract: the first pair's answer decides, or past it the second's.
+use mathlib.Core.Path.{◌≡◌, ◌∙◌, sym}
+use mathlib.Core.List.{List}
+use Prim.Native.Nat.{ℕ}
+use native.Mathlib.Omega.{arith}
+use borrow.Author.Rules.{rules}
+use lib.ListN.{get_or}
+use Rattle.delays.specs.Steps.{coded_pair}
+use Rattle.delays.specs.declared.Pair.TheVariants.{Inside}
+use Rattle.delays.proofs.Pairs.{by_first, by_second}
+use Rattle.coder.proofs.codes.Goals as goal
+
+-- past the first pair
+given : tie.After-known-told → List ℕ
+given c = c.before.before.before.before.args.t1
+
+inside : (c : goal.In-Inside)
+    → coded_pair (get_or (given c) 0 0) (get_or (given c) 1 0)
+    ≡ Inside c.in-Inside.a c.in-Inside.b
+inside c = sym c.coded_pair.ensures ∙ c.in-Inside.is
+
+pub returns-in-FirstNotListed : goal.returns-in-FirstNotListed
+returns-in-FirstNotListed c = by_first _ (sym c.coded_pair.ensures ∙ c.in-FirstNotListed.is)
+
+pub returns-in-SecondNotListed : goal.returns-in-SecondNotListed
+returns-in-SecondNotListed c = by_first _ (sym c.coded_pair.ensures ∙ c.in-SecondNotListed.is)
+
+pub returns-in-SecondOutside : goal.returns-in-SecondOutside
+returns-in-SecondOutside c = by_first _ (sym c.coded_pair.ensures ∙ c.in-SecondOutside.is)
+
+pub returns-in-FirstNotListed-coded_pair : goal.returns-in-FirstNotListed-coded_pair
+returns-in-FirstNotListed-coded_pair c =
+    by_second _ (inside c.before.before.before)
+    (sym c.coded_pair-in-Inside.ensures ∙ c.in-FirstNotListed-coded_pair.is)
+
+pub returns-in-SecondNotListed-coded_pair : goal.returns-in-SecondNotListed-coded_pair
+returns-in-SecondNotListed-coded_pair c =
+    by_second _ (inside c.before.before.before)
+    (sym c.coded_pair-in-Inside.ensures ∙ c.in-SecondNotListed-coded_pair.is)
+
+pub returns-in-SecondOutside-coded_pair : goal.returns-in-SecondOutside-coded_pair
+returns-in-SecondOutside-coded_pair c =
+    by_second _ (inside c.before.before.before)
+    (sym c.coded_pair-in-Inside.ensures ∙ c.in-SecondOutside-coded_pair.is)
+
+pub returns-in-Inside-coded_pair : goal.returns-in-Inside-coded_pair
+returns-in-Inside-coded_pair c =
+    c.both_inside.ensures
+    ∙ by_second _ (inside c.before.before.before.before.before)
+    (sym c.coded_pair-in-Inside.ensures ∙ c.in-Inside-coded_pair.is)

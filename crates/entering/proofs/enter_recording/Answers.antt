@@ -1,0 +1,23 @@
+-- `entering::enter_recording` meets its contract: by how the walk ends.
+use borrow.Author.Rules.{rules}
+use Rattle.tally.proofs.Rows.{recording_refused, recording_sound}
+use Rattle.entering.proofs.enter_recording.Goals as goal
+
+pub walk_through-walked-requires : goal.walk_through-walked-requires
+walk_through-walked-requires c = search rules
+
+pub entry_of-entry-requires : goal.entry_of-entry-requires
+entry_of-entry-requires c = search rules
+
+pub enter-requires : goal.enter-requires
+enter-requires c = search rules
+
+pub returns-in-Refused : goal.returns-in-Refused
+returns-in-Refused c =
+    recording_refused _ _ _ c.walk_through-walked.ensures c.in-Refused.is
+
+pub returns-in-Sound : goal.returns-in-Sound
+returns-in-Sound c =
+    recording_sound _ _ _ c.walk_through-walked.ensures c.in-Sound.is c.entry_of-entry.ensures
+    c.enter.ensures.value
+    c.enter.ensures.book_after

@@ -1,0 +1,22 @@
+-- `exciter::adaptive` meets its contract. Both loops have one invariant: the elements passed are those of the
+-- adaptive code.
+use mathlib.Core.Logic.{⊎_elim}
+use mathlib.Core.Path.{◌≡◌}
+use Prim.Native.Nat.{◌-◌, ◌≤◌, min}
+use native.Mathlib.Omega.{arith}
+use borrow.Author.Rules.{sfits_of}
+use mir.Facts.{to_z-of_z}
+use Rattle.excitation.proofs.Periods.{Coded, coded_none, coded_first, coded_later, coded_all}
+use Rattle.exciter.proofs.adaptive.Given as goal
+
+abbrev pub invariant-loop-t : goal.invariant-loop-t
+invariant-loop-t l = Coded l.register l.whole l.t l.out
+
+abbrev pub invariant-loop-t-2 : goal.invariant-loop-t-2
+invariant-loop-t-2 l = (min l.whole 60 ≤ l.t) × Coded l.register l.whole l.t l.out
+
+abbrev pub decreases-loop-t : goal.decreases-loop-t
+decreases-loop-t l = l.fresh - l.t
+
+abbrev pub decreases-loop-t-2 : goal.decreases-loop-t-2
+decreases-loop-t-2 l = 60 - l.t

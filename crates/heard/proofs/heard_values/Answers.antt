@@ -1,0 +1,16 @@
+-- `heard::heard_values` meets its contract: each step's answer put in its place.
+use mathlib.Core.Path.{◌≡◌, ◌∙◌, ap}
+use native.Mathlib.Omega.{arith}
+use Rattle.gains.specs.Tables.{cg_table, pg_table}
+use Rattle.values.specs.Values.{cg_index, pg_index, in_subframes, gains_of}
+use Rattle.values.proofs.Answered.{heard_whole}
+use Rattle.heard.proofs.heard_values.Goals as goal
+
+pub returns : goal.returns
+unfolding cg_table pg_table
+returns c =
+    heard_whole c.args.r c.args.before
+    (c.gains_in-cg.ensures ∙ ap (gains_of cg_table) c.in_subframes.ensures)
+    (c.gains_in-pg.ensures ∙ ap (gains_of pg_table) c.in_subframes-2.ensures) c.delays_of-delays.ensures
+    c.in_hertz-hertz.ensures c.previous_of-previous.ensures c.averages-averages.ensures
+    c.order_mark-mark.ensures c.state_after-state.ensures

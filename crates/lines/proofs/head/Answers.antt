@@ -1,0 +1,7 @@
+-- `lines::head` meets its contract.
+use native.Mathlib.Omega.{arith}
+use Rattle.lines.proofs.Lines.{head_text}
+use Rattle.lines.proofs.head.Goals as goal
+
+pub returns : goal.returns
+returns c = let s = c.before.before.before.before in head_text s.args.heading s.args.frames

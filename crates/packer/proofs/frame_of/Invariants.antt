@@ -1,0 +1,18 @@
+-- `packer::frame_of` meets its contract: the indices by field, their parity, and a loop over the bytes. Its invariant:
+-- the bytes passed hold their eight bits.
+use mathlib.Core.Path.{◌∙◌, sym, refl, ap}
+use Prim.Native.Nat.{◌-◌}
+use native.Mathlib.Omega.{arith}
+use lib.ListN.{length, get_or}
+use Rattle.laws.proofs.Filled.{Filled, filled_none, filled_more, filled_done}
+use Rattle.frame.specs.Frame.{sent, packed}
+use Rattle.frame.proofs.Answered.{parity_fits, parity_long, frame_is}
+use Rattle.frame.proofs.Laws.{packed_byte}
+use Rattle.frame.proofs.Places.{length_entries}
+use Rattle.packer.proofs.frame_of.Given as goal
+
+abbrev pub invariant-loop-k : goal.invariant-loop-k
+invariant-loop-k l = Filled 0 (packed_byte (sent (λ f. get_or l.fields f 0))) 18 l.k l.frame
+
+abbrev pub decreases-loop-k : goal.decreases-loop-k
+decreases-loop-k l = 18 - l.k

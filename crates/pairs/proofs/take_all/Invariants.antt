@@ -1,0 +1,19 @@
+-- `pairs::take_all` meets its contract. The loops' invariants: the places passed hold the indices of their fields.
+use mathlib.Core.Path.{refl}
+use Prim.Native.Nat.{◌-◌}
+use native.Mathlib.Omega.{arith}
+use Rattle.laws.proofs.Filled.{filled_none}
+use Rattle.pairs.proofs.Pairs.{TakenLsp, TakenSubframes, take_lsp, take_subframe, take_whole}
+use Rattle.pairs.proofs.take_all.Given as goal
+
+abbrev pub invariant-loop-k : goal.invariant-loop-k
+invariant-loop-k l = TakenLsp l.bytes l.k l.lsp
+
+abbrev pub invariant-loop-n : goal.invariant-loop-n
+invariant-loop-n l = TakenSubframes l.bytes l.n l.subframes
+
+abbrev pub decreases-loop-k : goal.decreases-loop-k
+decreases-loop-k l = 10 - l.k
+
+abbrev pub decreases-loop-n : goal.decreases-loop-n
+decreases-loop-n l = 16 - l.n

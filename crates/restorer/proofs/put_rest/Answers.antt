@@ -1,0 +1,32 @@
+use native.Mathlib.Omega.{arith}
+use lib.ListN.{length-take, length-drop}
+use borrow.Author.Rules.{rules}
+use Rattle.text.proofs.Laid.{put_length}
+use Rattle.restorer.proofs.Puts.{rest_none, rest_put, rest_within}
+use Rattle.laws.proofs.Clauses.{clauses}
+use Rattle.restorer.proofs.put_rest.Goals as goal
+
+pub returns-then-frames-eq0 : goal.returns-then-frames-eq0
+returns-then-frames-eq0 c = clauses (λ value out_after. record { value = value; out_after = out_after }) (rest_none _ _ _ _ c.args.frames c.requires.end_in_bounds (omega (arith, c.if-frames-eq0.true)))
+
+pub overflow_add-from : goal.overflow_add-from
+overflow_add-from c =
+    let p = c.requires in omega (arith, rest_within _ _ _ p.1.1 c.if-frames-eq0.false, p.1.0)
+
+pub overflow_add-to : goal.overflow_add-to
+overflow_add-to c = let p = c.requires in omega (arith, rest_within _ _ _ p.1.1 c.if-frames-eq0.false, p.1.0)
+
+pub slice_bounds-put_voice-end : goal.slice_bounds-put_voice-end
+slice_bounds-put_voice-end c =
+    omega (arith, rest_within _ _ _ c.requires.frames_in_bounds c.if-frames-eq0.false)
+
+pub put_voice-requires : goal.put_voice-requires
+put_voice-requires c =
+    let p = c.requires in let w = rest_within _ _ _ p.1.1 c.if-frames-eq0.false in
+    record { size_value = simp (length-take, length-drop) (omega (arith, w)); size_le_longest = omega (arith, w, p.1.0) }
+
+pub shape_of-out : goal.shape_of-out
+shape_of-out c = put_length _ _ _ (returns-2 c)
+
+pub returns : goal.returns
+returns c = clauses (λ value out_after. record { value = value; out_after = out_after }) (rest_put _ _ _ _ _ c.if-frames-eq0.false c.put_voice.ensures)

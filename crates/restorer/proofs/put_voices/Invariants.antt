@@ -1,0 +1,12 @@
+use mathlib.Core.Path.{◌∙◌, sym}
+use native.Mathlib.Omega.{arith}
+use lib.ListN.{length-take, length-drop}
+use borrow.Author.Rules.{rules}
+use Rattle.restorer.proofs.Puts.{found_voice, Laying, laying_start, laying_done, laying_none, laying_on}
+use Rattle.restorer.proofs.put_voices.Given as goal
+
+abbrev pub invariant-loop-left : goal.invariant-loop-left
+invariant-loop-left l = Laying l.initial.out l.start l.s l.frames l.out l.end l.at l.left
+
+abbrev pub decreases-loop-left : goal.decreases-loop-left
+decreases-loop-left l = l.left

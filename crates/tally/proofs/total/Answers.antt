@@ -1,0 +1,23 @@
+use mathlib.Core.Logic.{⊎_elim}
+use Prim.Native.Nat.{◌-◌}
+use native.Mathlib.Omega.{arith}
+use borrow.Author.Rules.{rules}
+use Rattle.tally.proofs.Rows.{Summing, summing, summed_own, summed_other, summed_all}
+use Rattle.tally.proofs.total.Goals as goal
+
+pub entries-last-requires : goal.entries-last-requires
+entries-last-requires c = search rules
+
+pub loop-i-init : goal.loop-i-init
+loop-i-init c = summing _ _ _ c.entries-last.ensures
+
+pub wide-sum-requires : goal.wide-sum-requires
+wide-sum-requires c = search rules
+
+pub loop-i-preserved : goal.loop-i-preserved
+loop-i-preserved c =
+    let a = c.loop-i.invariant in ⊎_elim (λ w. summed_own a (omega arith) (omega arith) w.2.ensures.0 w.2.ensures.1 w.3)
+    (λ w. summed_other a (omega arith) (λ q. omega arith) w.1) c.if-book-owner_at.branch
+
+pub returns : goal.returns
+returns c = summed_all c.loop-i.invariant (omega arith)

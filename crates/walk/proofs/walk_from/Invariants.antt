@@ -1,0 +1,13 @@
+use mathlib.Core.Path.{◌∙◌, sym}
+use Prim.Native.Nat.{◌-◌}
+use native.Mathlib.Omega.{arith}
+use lib.ListN.{length}
+use borrow.Author.Rules.{rules}
+use Rattle.blocks.proofs.Walks.{Walking, walking_start, walking_on, walking_done, step_further}
+use Rattle.walk.proofs.walk_from.Given as goal
+
+abbrev pub invariant-loop-next : goal.invariant-loop-next
+invariant-loop-next l = Walking l.s l.initial.walk l.walk
+
+abbrev pub decreases-loop-next : goal.decreases-loop-next
+decreases-loop-next l = length l.s - l.walk.at
