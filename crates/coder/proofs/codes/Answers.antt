@@ -10,15 +10,6 @@ use Rattle.delays.specs.declared.Pair.TheVariants.{Inside}
 use Rattle.delays.proofs.Pairs.{by_first, by_second}
 use Rattle.coder.proofs.codes.Goals as goal
 
--- past the first pair
-given : tie.After-known-told → List ℕ
-given c = c.before.before.before.before.args.t1
-
-inside : (c : goal.In-Inside)
-    → coded_pair (get_or (given c) 0 0) (get_or (given c) 1 0)
-    ≡ Inside c.in-Inside.a c.in-Inside.b
-inside c = sym c.coded_pair.ensures ∙ c.in-Inside.is
-
 pub returns-in-FirstNotListed : goal.returns-in-FirstNotListed
 returns-in-FirstNotListed c = by_first _ (sym c.coded_pair.ensures ∙ c.in-FirstNotListed.is)
 
@@ -30,21 +21,21 @@ returns-in-SecondOutside c = by_first _ (sym c.coded_pair.ensures ∙ c.in-Secon
 
 pub returns-in-FirstNotListed-coded_pair : goal.returns-in-FirstNotListed-coded_pair
 returns-in-FirstNotListed-coded_pair c =
-    by_second _ (inside c.before.before.before)
+    by_second _ (sym c.coded_pair.ensures ∙ c.in-Inside.is)
     (sym c.coded_pair-in-Inside.ensures ∙ c.in-FirstNotListed-coded_pair.is)
 
 pub returns-in-SecondNotListed-coded_pair : goal.returns-in-SecondNotListed-coded_pair
 returns-in-SecondNotListed-coded_pair c =
-    by_second _ (inside c.before.before.before)
+    by_second _ (sym c.coded_pair.ensures ∙ c.in-Inside.is)
     (sym c.coded_pair-in-Inside.ensures ∙ c.in-SecondNotListed-coded_pair.is)
 
 pub returns-in-SecondOutside-coded_pair : goal.returns-in-SecondOutside-coded_pair
 returns-in-SecondOutside-coded_pair c =
-    by_second _ (inside c.before.before.before)
+    by_second _ (sym c.coded_pair.ensures ∙ c.in-Inside.is)
     (sym c.coded_pair-in-Inside.ensures ∙ c.in-SecondOutside-coded_pair.is)
 
 pub returns-in-Inside-coded_pair : goal.returns-in-Inside-coded_pair
 returns-in-Inside-coded_pair c =
     c.both_inside.ensures
-    ∙ by_second _ (inside c.before.before.before.before.before)
+    ∙ by_second _ (sym c.coded_pair.ensures ∙ c.in-Inside.is)
     (sym c.coded_pair-in-Inside.ensures ∙ c.in-Inside-coded_pair.is)

@@ -13,7 +13,7 @@ use Rattle.excitation.proofs.Mixes.{Mixed, mixed_none, mixed_more, mixed_long, m
 use Rattle.exciter.proofs.mix.Given as goal
 
 abbrev pub invariant-loop-k : goal.invariant-loop-k
-invariant-loop-k l = Mixed (to_z w32 l.cg) l.code (to_z w32 l.pg) l.initial.out l.k l.out
+invariant-loop-k l = Mixed l.cg l.code l.pg l.initial.out l.k l.out
 
 abbrev pub decreases-loop-k : goal.decreases-loop-k
 decreases-loop-k l = 60 - l.k

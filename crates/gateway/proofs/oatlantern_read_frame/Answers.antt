@@ -29,10 +29,10 @@ overflow_cast-result c = let h = small c.before.before.before.before.before.befo
 
 pub returns-then-put : goal.returns-then-put
 returns-then-put c = clauses (λ value out_after. record { value = value; out_after = out_after }) (was_read _ _ _ c.read-reading.ensures c.in-Read.is c.number_for-number.ensures c.kind_of-kind.ensures
-    c.put.ensures c.if-put.true)
+    (c.put.ensures.value, c.put.ensures.out_after) c.if-put.true)
 
 pub returns-else-put : goal.returns-else-put
-returns-else-put c = clauses (λ value out_after. record { value = value; out_after = out_after }) (not_put _ _ _ c.read-reading.ensures c.put.ensures c.if-put.false)
+returns-else-put c = clauses (λ value out_after. record { value = value; out_after = out_after }) (not_put _ _ _ c.read-reading.ensures (c.put.ensures.value, c.put.ensures.out_after) c.if-put.false)
 
 pub returns-in-WrongLength : goal.returns-in-WrongLength
 returns-in-WrongLength c = clauses (λ value out_after. record { value = value; out_after = out_after }) (wrong_frame _ _ _ c.read-reading.ensures c.in-WrongLength.is)

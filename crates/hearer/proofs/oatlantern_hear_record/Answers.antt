@@ -25,7 +25,7 @@ lay-requires c =
 
 pub returns : goal.returns
 returns c =
-    let l = c.lay.ensures in
+    let l = (c.lay.ensures.value, (c.lay.ensures.cg_after, (c.lay.ensures.pg_after, (c.lay.ensures.delays_after, c.lay.ensures.averages_after)))) in
     clauses (λ value. clauses (λ sync_after. clauses (λ hz_after. clauses (λ cg_after. clauses (λ pg_after. clauses (λ delays_after averages_after. record { value = value; sync_after = sync_after; hz_after = hz_after; cg_after = cg_after; pg_after = pg_after; delays_after = delays_after; averages_after = averages_after })))))) (was_heard _ _ _ _ _ _ _ c.take.ensures (not-false c.take.result.whole c.if1.false) c.state_in-before.ensures
     c.values_of-values.ensures c.refusal_number-number.ensures c.if-number-eq2.false c.if-number-eq6.false
     c.keep.ensures.sync_after c.keep.ensures.hz_after

@@ -8,11 +8,11 @@ use Rattle.lsp.proofs.Columns.{row_small, one_looked}
 use Rattle.hertz.proofs.looked_up.Goals as goal
 
 -- an index that fits is a row of the table
-row : (c : goal.In-loop-i) → get_or c.args.t2 c.loop-i.i 0 < 16
+row : (c : goal.In-loop-i) → get_or c.args.indices c.loop-i.i 0 < 16
 row c = row_small _ _ c.requires.indices_value c.loop-i-test.true
 
 pub loop-i-init : goal.loop-i-init
-loop-i-init c = filled_none 0 (hz_at c.args.t2) 10 _ refl
+loop-i-init c = filled_none 0 (hz_at c.args.indices) 10 _ refl
 
 pub overflow_cast-row : goal.overflow_cast-row
 overflow_cast-row c = omega (arith, row c)
@@ -27,12 +27,12 @@ pub offset_bounds-table-row : goal.offset_bounds-table-row
 offset_bounds-table-row c = omega (arith, row c)
 
 pub bounds-table-row : goal.bounds-table-row
-bounds-table-row c = omega (arith, row c)
+bounds-table-row c = omega (arith, row c.before)
 
 pub loop-i-preserved : goal.loop-i-preserved
 loop-i-preserved c =
-    one_looked c.args.table.now c.args.t2 c.requires.t c.requires.indices_value c.loop-i.invariant
+    one_looked c.args.table.now c.args.indices c.requires.t c.requires.indices_value c.loop-i.invariant
     c.loop-i-test.true
 
 pub returns : goal.returns
-returns c = filled_done 0 (hz_at c.args.t2) 10 _ c.loop-i-test.false c.loop-i.invariant
+returns c = filled_done 0 (hz_at c.args.indices) 10 _ c.loop-i-test.false c.loop-i.invariant

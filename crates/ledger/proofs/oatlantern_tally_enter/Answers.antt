@@ -7,5 +7,5 @@ use Rattle.ledger.proofs.oatlantern_tally_enter.Goals as goal
 
 pub returns : goal.returns
 returns c =
-    let e = c.enter.ensures in
+    let e = (c.enter.ensures.value, c.enter.ensures.book_after) in
     record { value = to_z-of_z (sfits_of c.result.type_inv) ∙ c.result.ensures ∙ ap enter_result e.0; book_after = e.1 }

@@ -4,4 +4,4 @@ use Rattle.lines.proofs.Lines.{head_text}
 use Rattle.lines.proofs.head.Goals as goal
 
 pub returns : goal.returns
-returns c = let s = c.before.before.before.before in head_text s.args.heading s.args.frames
+returns c = head_text c.args.heading c.args.frames

@@ -7,4 +7,4 @@ pub shape_of-out : goal.shape_of-out
 shape_of-out c = put_length _ _ _ (returns c)
 
 pub returns : goal.returns
-returns c = clauses (λ value out_after. record { value = value; out_after = out_after }) (put_as _ _ _ _ c.form_of.ensures c.put_form.ensures)
+returns c = clauses (λ value out_after. record { value = value; out_after = out_after }) (put_as _ _ _ _ c.form_of.ensures (c.put_form.ensures.value, c.put_form.ensures.out_after))

@@ -15,7 +15,7 @@ loop-i-init c = laying_start _ _ _ _ _ c.least-end.ensures
 
 pub loop-i-preserved : goal.loop-i-preserved
 loop-i-preserved c =
-    let x = c.args.t3 in let long : length x.bytes ≡ 28 = search rules in
+    let x = c.args.form in let long : length x.bytes ≡ 28 = search rules in
     laying_on c.loop-i.invariant c.loop-i-test.true
     (omega (arith, c.least-size.ensures, c.loop-i-test.true))
     (⊎_elim
@@ -29,6 +29,6 @@ shape_of-out c = put_length _ _ _ (returns c)
 
 pub returns : goal.returns
 returns c =
-    let long : length c.args.t3.bytes ≡ 28 = search rules in
-    clauses (λ value out_after. record { value = value; out_after = out_after }) (laying_done c.loop-i.invariant c.loop-i-test.false c.args.t3.size
+    let long : length c.args.form.bytes ≡ 28 = search rules in
+    clauses (λ value out_after. record { value = value; out_after = out_after }) (laying_done c.loop-i.invariant c.loop-i-test.false c.args.form.size
     (omega (arith, c.least-size.ensures)))

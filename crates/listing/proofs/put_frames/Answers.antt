@@ -15,7 +15,7 @@ pub shape_of-out-then-step-pass : goal.shape_of-out-then-step-pass
 shape_of-out-then-step-pass c = put_length _ _ _ (returns c)
 
 pub returns-then-step-pass : goal.returns-then-step-pass
-returns-then-step-pass c = clauses (λ value out_after. record { value = value; out_after = out_after }) (listing_done c.loop-pass.invariant c.next-step.ensures c.if-step-pass.true c.put.ensures)
+returns-then-step-pass c = clauses (λ value out_after. record { value = value; out_after = out_after }) (listing_done c.loop-pass.invariant c.next-step.ensures c.if-step-pass.true (c.put.ensures.value, c.put.ensures.out_after))
 
 pub loop-pass-smaller : goal.loop-pass-smaller
 loop-pass-smaller c =
@@ -24,4 +24,4 @@ loop-pass-smaller c =
 
 pub loop-pass-preserved : goal.loop-pass-preserved
 loop-pass-preserved c =
-    listing_on c.loop-pass.invariant c.next-step.ensures c.if-step-pass.false c.said.ensures c.put-end.ensures
+    listing_on c.loop-pass.invariant c.next-step.ensures c.if-step-pass.false c.said.ensures (c.put-end.ensures.value, c.put-end.ensures.out_after)

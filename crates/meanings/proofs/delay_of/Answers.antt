@@ -7,4 +7,4 @@ pub bounds-ranks-code : goal.bounds-ranks-code
 bounds-ranks-code c = omega (arith, c.requires.code_bound)
 
 pub returns : goal.returns
-returns c = let start = c.before.before in first_meant start.requires.0 _ start.requires.1 c.twelfths.ensures
+returns c = first_meant c.requires.ranks_value _ c.requires.code_bound c.twelfths.ensures

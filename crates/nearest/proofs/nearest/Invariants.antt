@@ -10,7 +10,7 @@ use Rattle.gains.proofs.Down.{Passed, only_last, as_near, farther, read_apart, c
 use Rattle.nearest.proofs.nearest.Given as goal
 
 abbrev pub invariant-loop-i : goal.invariant-loop-i
-invariant-loop-i l = Passed (apart_at l.table (to_z w32 l.x)) (length l.table) l.i l.best l.near
+invariant-loop-i l = Passed (apart_at l.table l.x) (length l.table) l.i l.best l.near
 
 abbrev pub decreases-loop-i : goal.decreases-loop-i
 decreases-loop-i l = l.i

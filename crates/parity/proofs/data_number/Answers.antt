@@ -32,4 +32,4 @@ loop-k-preserved c =
     (other_field c.args.f c.args.i _ c.guarded-guarded.ensures c.loop-k.k (omega arith) c.if-entry-f.false)
 
 pub returns : goal.returns
-returns c = let l = c.before in data_none _ _ l.before.before.if1.false l.loop.invariant (omega arith)
+returns c = data_none _ _ c.if-f-eq0.false c.loop-k.invariant (omega arith)

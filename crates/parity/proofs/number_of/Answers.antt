@@ -22,7 +22,7 @@ overflow_mul-number c = record { fits = taken_room _ _ (omega arith) }
 pub loop-n-preserved : goal.loop-n-preserved
 loop-n-preserved c =
     summed_more _ c.loop-n.invariant (omega arith) _ (omega arith)
-    (next_guarded _ c.guarded-guarded.ensures c.loop-n.n c.args.t1)
+    (next_guarded _ c.guarded-guarded.ensures c.loop-n.n c.args.fields)
 
 pub returns : goal.returns
 returns c = summed_all _ c.loop-n.invariant (omega arith)

@@ -25,5 +25,5 @@ loop-n-preserved c = filled_more 0 _ 16 _ _ _ c.loop-n.invariant c.loop-n-test.t
 
 pub returns : goal.returns
 returns c =
-    taken_whole c.args.t1 c.loop-k.invariant c.loop-k-test.false
+    taken_whole c.args.fields c.loop-k.invariant c.loop-k-test.false
     c.loop-n.invariant c.loop-n-test.false

@@ -29,4 +29,4 @@ pub shape_of-out : goal.shape_of-out
 shape_of-out c = put_length _ _ _ (returns-2 c)
 
 pub returns : goal.returns
-returns c = clauses (λ value out_after. record { value = value; out_after = out_after }) (rest_put _ _ _ _ _ c.if-frames-eq0.false c.put_voice.ensures)
+returns c = clauses (λ value out_after. record { value = value; out_after = out_after }) (rest_put _ _ _ _ _ c.if-frames-eq0.false (c.put_voice.ensures.value, c.put_voice.ensures.out_after))

@@ -41,7 +41,7 @@ overflow_add-at c =
     omega (arith, t.fits, c.requires.s_len_bound)
 
 pub overflow_sub-left : goal.overflow_sub-left
-overflow_sub-left c = let e = c.before.before.before.before.before in omega (arith, e.least.ensures)
+overflow_sub-left c = omega (arith, c.least-kept.ensures)
 
 pub loop-left-smaller : goal.loop-left-smaller
 loop-left-smaller c =
@@ -51,7 +51,7 @@ pub loop-left-preserved : goal.loop-left-preserved
 loop-left-preserved c =
     laying_on c.loop-left.invariant _ _ _ c.loop-left-test.true
     (sym c.find.ensures ∙ c.in-At.is) c.least-kept.ensures
-    c.put_voice-end.ensures
+    (c.put_voice-end.ensures.value, c.put_voice-end.ensures.out_after)
 
 pub shape_of-out : goal.shape_of-out
 shape_of-out c = c.loop-left.invariant.long

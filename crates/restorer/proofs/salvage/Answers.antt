@@ -26,7 +26,7 @@ returns-in-Nothing c =
     record { value = refused_is _ _ _ e; out_after = buffer_stays _ _ _ e _ refl }
 
 pub shape_of-out : goal.shape_of-out
-shape_of-out c = let w = c.before.before.before in ap length w.write.ensures.1 ∙ length_laid _ _ _
+shape_of-out c = ap length c.write-end.ensures.out_after ∙ length_laid _ _ _
 
 pub returns-in-Written : goal.returns-in-Written
 returns-in-Written c =

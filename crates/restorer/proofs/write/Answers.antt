@@ -6,16 +6,16 @@ use Rattle.laws.proofs.Clauses.{clauses}
 use Rattle.restorer.proofs.write.Goals as goal
 
 pub put_voices-whole-requires : goal.put_voices-whole-requires
-put_voices-whole-requires c = record { start_in_bounds = put_within _ _ _ c.put_head-start.ensures; s_len_bound = c.requires.s_len_bound }
+put_voices-whole-requires c = record { start_in_bounds = put_within _ _ _ (c.put_head-start.ensures.value, c.put_head-start.ensures.out_after); s_len_bound = c.requires.s_len_bound }
 
 pub put_rest-end-requires : goal.put_rest-end-requires
 put_rest-end-requires c =
     let p = c.requires in
-    record { end_in_bounds = put_within _ _ _ c.put_voices-whole.ensures; s_len_bound = p.0; frames_in_bounds = p.1 }
+    record { end_in_bounds = put_within _ _ _ (c.put_voices-whole.ensures.value, c.put_voices-whole.ensures.out_after); s_len_bound = p.0; frames_in_bounds = p.1 }
 
 pub shape_of-out : goal.shape_of-out
 shape_of-out c = ap length (returns c).1 ∙ length_laid _ _ _
 
 pub returns : goal.returns
-returns c = clauses (λ value out_after. record { value = value; out_after = out_after }) (write_put _ _ c.args.keep c.put_head-start.ensures c.put_voices-whole.ensures
-    c.put_rest-end.ensures c.put_end.ensures)
+returns c = clauses (λ value out_after. record { value = value; out_after = out_after }) (write_put _ _ c.args.keep (c.put_head-start.ensures.value, c.put_head-start.ensures.out_after) (c.put_voices-whole.ensures.value, c.put_voices-whole.ensures.out_after)
+    (c.put_rest-end.ensures.value, c.put_rest-end.ensures.out_after) (c.put_end.ensures.value, c.put_end.ensures.out_after))

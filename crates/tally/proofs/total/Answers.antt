@@ -4,6 +4,7 @@ use native.Mathlib.Omega.{arith}
 use borrow.Author.Rules.{rules}
 use Rattle.tally.proofs.Rows.{Summing, summing, summed_own, summed_other, summed_all}
 use Rattle.tally.proofs.total.Goals as goal
+use Rattle.tally.proofs.total.Goals.{then-book-owner_at, else-book-owner_at}
 
 pub entries-last-requires : goal.entries-last-requires
 entries-last-requires c = search rules
@@ -16,8 +17,11 @@ wide-sum-requires c = search rules
 
 pub loop-i-preserved : goal.loop-i-preserved
 loop-i-preserved c =
-    let a = c.loop-i.invariant in ⊎_elim (λ w. summed_own a (omega arith) (omega arith) w.2.ensures.0 w.2.ensures.1 w.3)
-    (λ w. summed_other a (omega arith) (λ q. omega arith) w.1) c.if-book-owner_at.branch
+    let a = c.loop-i.invariant in
+    elim c.if-book-owner_at.branch [
+      then-book-owner_at w ↦ summed_own a (omega arith) (omega arith) w.wide-sum.ensures.value w.wide-sum.ensures.upper_bound w.sum-is
+    | else-book-owner_at w ↦ summed_other a (omega arith) (λ q. omega arith) w.sum-is
+    ]
 
 pub returns : goal.returns
 returns c = summed_all c.loop-i.invariant (omega arith)
