@@ -1,9 +1,9 @@
-use mathlib.Core.Logic.{⊎_elim}
 use Prim.Native.Nat.{◌-◌}
 use native.Mathlib.Omega.{arith}
 use borrow.Author.Rules.{rules}
 use Rattle.tally.proofs.Rows.{Seeking, seeking, sought_found, sought_number, sought_unit, sought_none}
 use Rattle.asking.proofs.row_of.Goals as goal
+use Rattle.asking.proofs.row_of.Goals.{then-book-number_at, else-book-number_at}
 
 pub entries-end-requires : goal.entries-end-requires
 entries-end-requires c = search rules
@@ -17,8 +17,11 @@ returns-then-book-unit_at c =
 
 pub loop-row-preserved : goal.loop-row-preserved
 loop-row-preserved c =
-    let a = c.loop-row.invariant in ⊎_elim (λ w. sought_unit a (omega arith) (omega arith) (λ q. omega arith))
-    (λ w. sought_number a (omega arith) (λ q. omega arith)) c.if-book-number_at.branch
+    let a = c.loop-row.invariant in
+    elim c.if-book-number_at.branch [
+      then-book-number_at w ↦ sought_unit a (omega arith) (omega arith) (λ q. omega arith)
+    | else-book-number_at w ↦ sought_number a (omega arith) (λ q. omega arith)
+    ]
 
 pub returns : goal.returns
 returns c = sought_none c.loop-row.invariant (omega arith)

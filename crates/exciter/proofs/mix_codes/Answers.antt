@@ -15,11 +15,6 @@ mix-requires c = (
   c.requires.3,
 )
 
-pub shape_of-out : goal.shape_of-out
-shape_of-out c =
-    ap length (returns c)
-    ∙ omega (arith, mixed_sixty c.args.pg c.args.ci c.args.cg c.args.out.now, c.requires.3)
-
 pub returns : goal.returns
 unfolding cg_table pg_table
 returns c =
@@ -28,3 +23,8 @@ returns c =
     (sfits_of c.gain_in-past.type_inv) c.gain_in-past.ensures
     (code_written c.args.ci _ c.requires.1 refl c.write_code.ensures.out_after)
     c.args.out.now
+
+pub shape_of-out : goal.shape_of-out
+shape_of-out c =
+    ap length (returns c)
+    ∙ omega (arith, mixed_sixty c.args.pg c.args.ci c.args.cg c.args.out.now, c.requires.3)

@@ -14,31 +14,26 @@ use Rattle.excitation.proofs.Mixes.{mixed_sixty}
 use Rattle.excitation.proofs.Outcomes.{Fitting, fitting}
 use Rattle.exciter.proofs.moved_by.Goals as goal
 
--- nothing is refused
-fits : (s : goal.Start)
-    → Fitting (length s.args.out.now) s.args.delay s.args.pg s.args.ci s.args.cg
-fits s = fitting _ _ _ _ s.requires
-
 pub adaptive-requires : goal.adaptive-requires
 adaptive-requires c =
-    let f = fits c.before.before.before in
+    let f = fitting _ _ _ _ c.requires in
     (f.from_twenty, f.upto_last, f.sixty)
 
 pub mix_codes-requires : goal.mix_codes-requires
 mix_codes-requires c =
-    let f = fits c.before.before.before.before.before.before in
+    let f = fitting _ _ _ _ c.requires in
     (f.pg_fits, f.ci_fits, f.cg_fits, ap length c.adaptive.ensures ∙ adaptive_sixty _ _)
 
 pub moved-requires : goal.moved-requires
-moved-requires c = record { before_len = search rules; len = ap length c.mix-codes.ensures ∙ mixed_sixty _ _ _ _ }
+moved-requires c = record { before_len = search rules; len = ap length c.mix_codes.ensures ∙ mixed_sixty _ _ _ _ }
 
 pub shape_of-out : goal.shape_of-out
 shape_of-out c =
-    ap length c.mix-codes.ensures ∙ mixed_sixty _ _ _ _ ∙ sym (fits c.before.before.before.before.before.before.before.before.before.before.before).sixty
+    ap length c.mix_codes.ensures ∙ mixed_sixty _ _ _ _ ∙ sym (fitting _ _ _ _ c.requires).sixty
 
 pub returns : goal.returns
 unfolding register_moved excitation_of
 returns c =
-    let whole = c.mix-codes.ensures
+    let whole = c.mix_codes.ensures
     ∙ ap (mixed_by c.args.pg c.args.ci c.args.cg) c.adaptive.ensures in
     record { value = c.moved.ensures ∙ ap (λ (l : List ℤ). holding (moved_by c.args.register.elements l)) whole; out_after = whole }

@@ -27,7 +27,7 @@ pub offset_bounds-table-row : goal.offset_bounds-table-row
 offset_bounds-table-row c = omega (arith, row c)
 
 pub bounds-table-row : goal.bounds-table-row
-bounds-table-row c = omega (arith, row c.before)
+bounds-table-row c = omega (arith, row_small _ _ c.requires.indices_value c.loop-i-test.true)
 
 pub loop-i-preserved : goal.loop-i-preserved
 loop-i-preserved c =

@@ -14,8 +14,7 @@ returns-then-walk-left-eq0 c = plan_no_frame c.args.walk _ _ c.if-not-walk.false
 
 pub keep_by-requires : goal.keep_by-requires
 keep_by-requires c =
-    let p = c.requires in
-    record { frames_bound = p.0; left_bound = p.1; left_nonzero = omega (arith, c.if-walk-left-eq0.false) }
+    record { frames_bound = c.requires.frames_bound; left_bound = c.requires.left_bound; left_nonzero = omega (arith, c.if-walk-left-eq0.false) }
 
 pub returns : goal.returns
 returns c =

@@ -18,5 +18,5 @@ pub returns : goal.returns
 returns c = record {
   result_value = told_bytes _ _ _ c.voice_span-span.ensures;
   ref_ptr_value = ap
-      (λ (r : Span). bytes_on c.args.s.ptr r.from) c.voice_span-span.ensures;
+      (λ (r : Span). bytes_on c.args.s.ref_ptr r.from) c.voice_span-span.ensures;
 }
