@@ -1,5 +1,5 @@
 use mathlib.Core.Path.{◌∙◌, ap}
-use Prim.Native.Nat.{◌+◌, ◌-◌, ◌*◌, ◌/◌, ◌<◌}
+use Prim.Native.Nat.{ℕ, ◌+◌, ◌-◌, ◌*◌, ◌/◌, ◌<◌}
 use native.Mathlib.Omega.{arith}
 use lib.ListN.{length, get_or}
 use Rattle.frame.specs.Frame.{sent}
@@ -9,15 +9,8 @@ use Rattle.frame.proofs.Packed.{sent_field, sent_small}
 use Rattle.packer.proofs.byte_at.Goals as goal
 
 -- the next place is one of the 144, and its entry names one of the 29
-within : (c : goal.After-shared_slice_known-1)
-    → 8 * c.args.k + c.loop-q.q < 144
-within c = omega (arith, c.requires.k_bound)
-
-named : (c : goal.After-shared_slice_known-1)
-    → get_or c.args.table.now
-    (8 * c.args.k + c.loop-q.q) 0 / 16 < 29
-named c =
-    sent_field c.args.fields.now _ c.requires.table_value _ (within c)
+within : (k q : ℕ) → k < 18 → q < 8 → 8 * k + q < 144
+within k q h t = omega (arith, h, t)
 
 pub overflow_mul-from : goal.overflow_mul-from
 overflow_mul-from c = omega (arith, c.requires.k_bound)
@@ -34,23 +27,23 @@ bounds-table-from c =
     omega (arith, e, c.requires.k_bound)
 
 pub overflow_cast-f : goal.overflow_cast-f
-overflow_cast-f c = omega (arith, named c)
+overflow_cast-f c = omega (arith, sent_field c.args.fields.now _ c.requires.table_value _ (within _ _ c.requires.k_bound c.loop-q-test.true))
 
 pub overflow_mul-x : goal.overflow_mul-x
 overflow_mul-x c = omega (arith, shifted_room _ _ _ c.loop-q.invariant c.loop-q-test.true)
 
 pub offset_bounds-fields-f : goal.offset_bounds-fields-f
-offset_bounds-fields-f c = omega (arith, named c, c.requires.fields_len)
+offset_bounds-fields-f c = omega (arith, sent_field c.args.fields.now _ c.requires.table_value _ (within _ _ c.requires.k_bound c.loop-q-test.true), c.requires.fields_len)
 
 pub bounds-fields-f : goal.bounds-fields-f
-bounds-fields-f c = omega (arith, named c.before, c.requires.fields_len)
+bounds-fields-f c = omega (arith, sent_field c.args.fields.now _ c.requires.table_value _ (within _ _ c.requires.k_bound c.loop-q-test.true), c.requires.fields_len)
 
 pub overflow_add-x : goal.overflow_add-x
 overflow_add-x c = omega (arith, shifted_room _ _ _ c.loop-q.invariant c.loop-q-test.true)
 
 pub loop-q-preserved : goal.loop-q-preserved
 loop-q-preserved c =
-    shifted_turn c.args.fields.now _ c.requires.table_value (within c.before)
+    shifted_turn c.args.fields.now _ c.requires.table_value (within _ _ c.requires.k_bound c.loop-q-test.true)
     c.loop-q.invariant c.loop-q-test.true
 
 pub overflow_cast-result : goal.overflow_cast-result
