@@ -19,8 +19,8 @@ loop-i-preserved c =
     laying_on c.loop-i.invariant c.loop-i-test.true
     (omega (arith, c.least-size.ensures, c.loop-i-test.true))
     (elim c.if-c-lt8.branch [
-      then-c-lt8 w ↦ shown_number x.numbers _ _ _ w.out-is w.end-is w.if-c-lt8.true (w.put_number.ensures.value, w.put_number.ensures.out_after)
-    | else-c-lt8 w ↦ shown_byte x.numbers _ _ _ w.out-is w.end-is w.if-c-lt8.false (w.put_byte.ensures.value, w.put_byte.ensures.out_after)
+      then-c-lt8 w ↦ shown_number x.numbers _ _ _ w.out-is w.end-is w.if-c-lt8.true (w.put_number-end.ensures.value, w.put_number-end.ensures.out_after)
+    | else-c-lt8 w ↦ shown_byte x.numbers _ _ _ w.out-is w.end-is w.if-c-lt8.false (w.put_byte-end.ensures.value, w.put_byte-end.ensures.out_after)
     ])
 
 pub returns : goal.returns

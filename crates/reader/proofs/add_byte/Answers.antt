@@ -8,12 +8,6 @@ use Rattle.frame.proofs.Gathered.{Gathered, bit_at_small, gathered_from, gathere
 use Rattle.frame.proofs.Gathered.{turn_field, turn_room, byte_begun, byte_done}
 use Rattle.reader.proofs.add_byte.Goals as goal
 
--- the next entry names one of the 29
-named : (c : goal.After-shared_slice_known-in-loop-q-1) → get_or c.args.table.now (8 * c.args.n + c.loop-q.q) 0 / 16 < 29
-named c =
-    turn_field _ _ c.requires.table_value c.loop-q.invariant.0 c.requires.n_bound
-    c.loop-q-test.true
-
 pub bounds-frame-n : goal.bounds-frame-n
 bounds-frame-n c = omega (arith, c.requires.n_in_bounds)
 
@@ -36,13 +30,13 @@ bounds-table-from c =
     omega (arith, e, c.requires.n_bound)
 
 pub overflow_cast-f : goal.overflow_cast-f
-overflow_cast-f c = omega (arith, named c)
+overflow_cast-f c = omega (arith, turn_field _ _ c.requires.table_value c.loop-q.invariant.0 c.requires.n_bound c.loop-q-test.true)
 
 pub offset_bounds-fields-f : goal.offset_bounds-fields-f
-offset_bounds-fields-f c = omega (arith, named c)
+offset_bounds-fields-f c = omega (arith, turn_field _ _ c.requires.table_value c.loop-q.invariant.0 c.requires.n_bound c.loop-q-test.true)
 
 pub bounds-fields-f : goal.bounds-fields-f
-bounds-fields-f c = omega (arith, named c.before, c.loop-q.invariant.0.long)
+bounds-fields-f c = omega (arith, turn_field _ _ c.requires.table_value c.loop-q.invariant.0 c.requires.n_bound c.loop-q-test.true, c.loop-q.invariant.0.long)
 
 pub overflow_add-fields : goal.overflow_add-fields
 overflow_add-fields c =
@@ -53,7 +47,7 @@ overflow_add-fields c =
     }
 
 pub bounds-fields-f-in-loop-q : goal.bounds-fields-f-in-loop-q
-bounds-fields-f-in-loop-q c = omega (arith, named c.before, c.loop-q.invariant.0.long)
+bounds-fields-f-in-loop-q c = omega (arith, turn_field _ _ c.requires.table_value c.loop-q.invariant.0 c.requires.n_bound c.loop-q-test.true, c.loop-q.invariant.0.long)
 
 pub loop-q-preserved : goal.loop-q-preserved
 loop-q-preserved c = (
