@@ -11,10 +11,10 @@ returns-then-frames-eq0 c = clauses (λ value out_after. record { value = value;
 
 pub overflow_add-from : goal.overflow_add-from
 overflow_add-from c =
-    let p = c.requires in omega (arith, rest_within _ _ _ p.1.1 c.if-frames-eq0.false, p.1.0)
+    omega (arith, rest_within _ _ _ c.requires.frames_in_bounds c.if-frames-eq0.false, c.requires.s_len_bound)
 
 pub overflow_add-to : goal.overflow_add-to
-overflow_add-to c = let p = c.requires in omega (arith, rest_within _ _ _ p.1.1 c.if-frames-eq0.false, p.1.0)
+overflow_add-to c = omega (arith, rest_within _ _ _ c.requires.frames_in_bounds c.if-frames-eq0.false, c.requires.s_len_bound)
 
 pub slice_bounds-put_voice-end : goal.slice_bounds-put_voice-end
 slice_bounds-put_voice-end c =
@@ -22,11 +22,11 @@ slice_bounds-put_voice-end c =
 
 pub put_voice-requires : goal.put_voice-requires
 put_voice-requires c =
-    let p = c.requires in let w = rest_within _ _ _ p.1.1 c.if-frames-eq0.false in
-    record { size_value = simp (length-take, length-drop) (omega (arith, w)); size_le_longest = omega (arith, w, p.1.0) }
-
-pub shape_of-out : goal.shape_of-out
-shape_of-out c = put_length _ _ _ (returns-2 c)
+    let w = rest_within _ _ _ c.requires.frames_in_bounds c.if-frames-eq0.false in
+    record { size_value = simp (length-take, length-drop) (omega (arith, w)); size_le_longest = omega (arith, w, c.requires.s_len_bound) }
 
 pub returns : goal.returns
 returns c = clauses (λ value out_after. record { value = value; out_after = out_after }) (rest_put _ _ _ _ _ c.if-frames-eq0.false (c.put_voice.ensures.value, c.put_voice.ensures.out_after))
+
+pub shape_of-out : goal.shape_of-out
+shape_of-out c = put_length _ _ _ ((returns c).value, (returns c).out_after)
