@@ -24,9 +24,9 @@ returns-then-row-held c = clauses (λ value book_after. record { value = value; 
 
 pub append-requires : goal.append-requires
 append-requires c =
-    row_after _ _ _ c.row_of.ensures c.entries-held.ensures (omega arith)
+    row_after _ _ _ c.row_of-row.ensures c.entries-held.ensures (omega arith)
 
 pub returns : goal.returns
 returns c = clauses (λ value book_after. record { value = value; book_after = book_after }) (held_none _ c.args.entry
-    (row_none _ _ _ c.row_of.ensures c.entries-held.ensures (omega arith)) c.append.ensures.value
+    (row_none _ _ _ c.row_of-row.ensures c.entries-held.ensures (omega arith)) c.append.ensures.value
     c.append.ensures.book_after)

@@ -7,7 +7,7 @@ use Rattle.laws.proofs.Clauses.{clauses}
 use Rattle.restorer.proofs.put_rest.Goals as goal
 
 pub returns-then-frames-eq0 : goal.returns-then-frames-eq0
-returns-then-frames-eq0 c = clauses (λ value out_after. record { value = value; out_after = out_after }) (rest_none _ _ _ _ c.args.frames c.requires.end_in_bounds (omega (arith, c.if-frames-eq0.true)))
+returns-then-frames-eq0 c = clauses (λ value out_after. record { value = value; out_after = out_after }) (rest_none c.args.out.now c.args.end c.args.s.now c.args.at c.args.frames c.requires.end_in_bounds (omega (arith, c.if-frames-eq0.true)))
 
 pub overflow_add-from : goal.overflow_add-from
 overflow_add-from c =

@@ -16,4 +16,4 @@ returns c = clauses (λ value out_after. record { value = value; out_after = out
     (c.put_rest-end.ensures.value, c.put_rest-end.ensures.out_after) (c.put_end.ensures.value, c.put_end.ensures.out_after))
 
 pub shape_of-out : goal.shape_of-out
-shape_of-out c = ap length ((returns c).value, (returns c).out_after).1 ∙ length_laid _ _ _
+shape_of-out c = ap length (returns c).out_after ∙ length_laid _ _ _

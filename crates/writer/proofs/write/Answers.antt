@@ -7,13 +7,6 @@ use Rattle.frame.proofs.Answered.{wrong_length, too_large, falling, expansion, a
 use Rattle.laws.proofs.Clauses.{clauses}
 use Rattle.writer.proofs.write.Goals as goal
 
--- past a test: the indices fit, the parameters are in order
-fits : (c : goal.Else-field-ne0) → too_large_field c.args.r ≡ 0
-fits c = sym c.too_large-field.ensures ∙ c.if-field-ne0.false
-
-order : (c : goal.Else-mark-ne0) → record_mark c.args.r ≡ 0
-order c = sym c.mark_of-mark.ensures ∙ c.if-mark-ne0.false
-
 pub returns-then-frame-ne18 : goal.returns-then-frame-ne18
 returns-then-frame-ne18 c = clauses (λ value frame_after. record { value = value; frame_after = frame_after }) (answered _ _ _ (wrong_length _ _ c.if-frame-ne18.true))
 
@@ -21,12 +14,12 @@ pub returns-then-field-ne0 : goal.returns-then-field-ne0
 returns-then-field-ne0 c = clauses (λ value frame_after. record { value = value; frame_after = frame_after }) (answered _ _ _ (too_large _ _ c.if-frame-ne18.false _ c.too_large-field.ensures c.if-field-ne0.true))
 
 pub returns-then-mark-ne0 : goal.returns-then-mark-ne0
-returns-then-mark-ne0 c = clauses (λ value frame_after. record { value = value; frame_after = frame_after }) (answered _ _ _ (falling _ _ c.if-frame-ne18.false (fits c.before.before) _
+returns-then-mark-ne0 c = clauses (λ value frame_after. record { value = value; frame_after = frame_after }) (answered _ _ _ (falling _ _ c.if-frame-ne18.false (sym c.too_large-field.ensures ∙ c.if-field-ne0.false) _
     c.mark_of-mark.ensures c.if-mark-ne0.true))
 
 pub returns-then-r-ne0 : goal.returns-then-r-ne0
-returns-then-r-ne0 c = clauses (λ value frame_after. record { value = value; frame_after = frame_after }) (answered _ _ _ (expansion _ _ c.if-frame-ne18.false (fits c.before.before.before.before) (order c.before.before) c.if-r-ne0.true))
+returns-then-r-ne0 c = clauses (λ value frame_after. record { value = value; frame_after = frame_after }) (answered _ _ _ (expansion _ _ c.if-frame-ne18.false (sym c.too_large-field.ensures ∙ c.if-field-ne0.false) (sym c.mark_of-mark.ensures ∙ c.if-mark-ne0.false) c.if-r-ne0.true))
 
 pub returns : goal.returns
-returns c = clauses (λ value frame_after. record { value = value; frame_after = frame_after }) (laid _ _ _ (accepted _ _ c.if-frame-ne18.false (fits c.before.before.before.before.before.before.before.before.before) (order c.before.before.before.before.before.before.before)
+returns c = clauses (λ value frame_after. record { value = value; frame_after = frame_after }) (laid _ _ _ (accepted _ _ c.if-frame-ne18.false (sym c.too_large-field.ensures ∙ c.if-field-ne0.false) (sym c.mark_of-mark.ensures ∙ c.if-mark-ne0.false)
     c.if-r-ne0.false) (c.lay.ensures ∙ c.frame_of.ensures))
