@@ -1,9 +1,19 @@
-// Standard input, read into a lent buffer. What is read is the operating system's to say: no contract can, and this one
-// says only that the count lies within the buffer.
+// What the system gives a program: its streams' numbers, whether there is an argument, and standard input, read into a lent buffer.
+// What is read is the operating system's to say: no contract can, and the one below says only that the count lies within the buffer.
+#![tactic(auto)]
+
 ghost use Rattle.std.specs.Prelude.{◌≤◌, length};
 ghost use Rattle.input.specs.Input.{count_read};
 
-use libc::STDIN_FILENO;
+use std::env::{Env, FillError};
+use std::io::Read;
+
+// The numbers of the three streams.
+pub const STDIN: i32 = 0;
+
+pub const STDOUT: i32 = 1;
+
+pub const STDERR: i32 = 2;
 
 // How many bytes were read, or that a read failed.
 #[derive(Clone, Copy)]
@@ -12,17 +22,21 @@ pub enum Input {
     Failed,
 }
 
+// Whether the program was started with an argument; its own name, number 0, is none.
+pub fn has_argument(rt: &impl Env) -> bool {
+    let mut first = [0u8; 1];
+    !matches!(rt.arg(1, &mut first), Err(FillError::NotPresent))
+}
+
 // Reads until the buffer is full or the input ends.
-pub fn read_all(buf: &mut [u8]) -> Input
+pub fn read_all(stdin: &mut impl Read, buf: &mut [u8]) -> Input
     ensures { count_read result ≤ length buf.new }
 {
     let mut done = 0;
     while done < buf.len() {
-        let got = libc::read(STDIN_FILENO, &mut buf[done..]);
-        if got < 0 {
+        let Ok(more) = stdin.read(&mut buf[done..]) else {
             return Input::Failed;
-        }
-        let more = io::count(got, &buf[done..]);
+        };
         if more == 0 {
             return Input::Bytes(done);
         }
