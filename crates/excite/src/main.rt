@@ -4,10 +4,11 @@ mod line;
 
 use blocks::Ending;
 use input::{Input, STDERR};
+use std::env::{Env, FillError};
 
 // The program takes no argument: with one it says how it is used, and reads nothing.
 fn main(rt: HostRuntime) {
-    if input::has_argument(&rt) {
+    if !matches!(rt.arg(1, &mut []), Err(FillError::NotPresent)) {
         io::write_all(STDERR, b"usage: oatlantern-excite <recording\n");
         return;
     }

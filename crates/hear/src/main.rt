@@ -6,10 +6,11 @@ mod line;
 use input::{Input, STDERR};
 use lines::Line;
 use recording::{Judged, Summary};
+use std::env::{Env, FillError};
 
 // The program takes no argument: with one it says how it is used, and reads nothing.
 fn main(rt: HostRuntime) {
-    if input::has_argument(&rt) {
+    if !matches!(rt.arg(1, &mut []), Err(FillError::NotPresent)) {
         io::write_all(STDERR, b"usage: oatlantern-hear <recording\n");
         return;
     }

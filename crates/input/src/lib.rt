@@ -1,14 +1,13 @@
-// What the system gives a program: its streams' numbers, whether there is an argument, and standard input, read into a lent buffer.
-// What is read is the operating system's to say: no contract can, and the one below says only that the count lies within the buffer.
+// Standard input, read into a lent buffer. What is read is the operating system's to say: no contract can, and this one
+// says only that the count lies within the buffer.
 #![tactic(auto)]
 
 ghost use Rattle.std.specs.Prelude.{◌≤◌, length};
 ghost use Rattle.input.specs.Input.{count_read};
 
-use std::env::{Env, FillError};
 use std::io::Read;
 
-// The numbers of the three streams.
+// The numbers of the three streams, for what writes to them or reads them itself.
 pub const STDIN: i32 = 0;
 
 pub const STDOUT: i32 = 1;
@@ -20,12 +19,6 @@ pub const STDERR: i32 = 2;
 pub enum Input {
     Bytes(usize),
     Failed,
-}
-
-// Whether the program was started with an argument; its own name, number 0, is none.
-pub fn has_argument(rt: &impl Env) -> bool {
-    let mut first = [0u8; 1];
-    !matches!(rt.arg(1, &mut first), Err(FillError::NotPresent))
 }
 
 // Reads until the buffer is full or the input ends.

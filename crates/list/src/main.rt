@@ -1,10 +1,11 @@
 // Lists one recording from standard input: the listing, or the one line of its refusal, to standard output.
 use input::{Input, STDERR, STDOUT};
 use listing::Listed;
+use std::env::{Env, FillError};
 
 // The program takes no argument: with one it says how it is used, and reads nothing.
 fn main(rt: HostRuntime) {
-    if input::has_argument(&rt) {
+    if !matches!(rt.arg(1, &mut []), Err(FillError::NotPresent)) {
         io::write_all(STDERR, b"usage: oatlantern-list <recording\n");
         return;
     }

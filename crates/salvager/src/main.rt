@@ -5,10 +5,11 @@ ghost use Rattle.salvage.specs.Salvaging.{long_of};
 
 use input::{Input, STDERR, STDOUT};
 use salvage::Salvaged;
+use std::env::{Env, FillError};
 
 // The program takes no argument: with one it says how it is used, and reads nothing.
 fn main(rt: HostRuntime) {
-    if input::has_argument(&rt) {
+    if !matches!(rt.arg(1, &mut []), Err(FillError::NotPresent)) {
         io::write_all(STDERR, b"usage: oatlantern-salvage <recording >salvaged\n");
         return;
     }
