@@ -9,8 +9,8 @@ count for it: edits that change that function, or a private step or a constant t
 under "Other edits of code", every edit of specs/ under "Edits of definitions"; every statement stands under a demand and on the page; and
 no page names a statement, an edit or a proof that is not there. A determination proof takes two results that the function's own contract
 allows for the same arguments and concludes that they are equal, and with them each buffer that was lent to be written. Only a function
-that calls C has the word `exception` for it, and is named under "Exceptions" with why. The last line is `N cases, M faults`; the exit is 1
-where there is a fault.
+that calls C or reads has the word `exception` for it, and is named under "Exceptions" with why. The last line is `N cases, M faults`;
+the exit is 1 where there is a fault.
 """
 
 import re
@@ -214,7 +214,7 @@ for crate in LIBRARIES:
         good = [label for label in dict.fromkeys(told) if label in EDITS.get(crate, {}) and EDITS[crate][label].of_code and counts(EDITS[crate][label], function)]
         hold(len(good) >= 2, f"{name}: {len(good)} of its edits count ({', '.join(good) or 'none'}): they change the function or a step that it alone uses; two are needed")
         if cells[3] == "exception":
-            hold(calls_c(function), f"{name}: calls no C, so its answer can be determined")
+            hold(calls_c(function), f"{name}: calls no C and reads nothing, so its answer can be determined")
             hold(f"`{name}`" in exceptions, f"{name}: stands under no exceptions")
             continue
         proof = re.fullmatch(r"`([^`]+)`", cells[3])

@@ -15,7 +15,8 @@ CRATES = ROOT / "crates"
 MASKED = re.compile(r'//[^\n]*|b?"(?:\\.|[^"\\])*"|b?\'(?:\\(?:x[0-9a-fA-F]{2}|.)|[^\'\\\n])\'', re.S)
 HEADS = re.compile(r"(?P<public>\bpub\s+)?(?:extern\s+\"\s*\"\s+)?\b(?P<kind>fn|const|impl|mod|struct|enum|use|extern)\b")
 CLAUSES = ("requires", "ensures")
-C_LIBRARIES = ("libc", "io", "os")
+C_LIBRARIES = ("io",)
+READERS = (["std", "io", "Read"],)
 CALL = re.compile(r"(?<![\w.])(?P<path>(?:\w+\s*::\s*)*)(?P<name>\w+)\s*\(")
 METHOD = re.compile(r"\.\s*(?P<name>[a-z_]\w*)\s*\(")
 CONSTANT = re.compile(r"(?<![\w.])(?P<path>(?:\w+\s*::\s*)*)(?P<name>[A-Z][A-Z0-9_]*)\b(?!\s*(?:::|\())")
@@ -232,6 +233,9 @@ class Sources:
         return next((found for found in self.items_by_name[(*place, name)] if found.kind == kind), None) if place else None
 
     def connect(self, item):
+        # what takes a reader of std's answers what the system gives, as what calls C does
+        brought = self.files[item.crate, item.module].brought
+        item.calls_c = any(brought.get(bound) in READERS for bound in re.findall(r"\bimpl\s+(\w+)", item.head))
         for call in CALL.finditer(item.body):
             segments = [part.strip() for part in call["path"].split("::") if part.strip()]
             brought = self.files[item.crate, item.module].brought.get(segments[0] if segments else call["name"], segments)

@@ -9,7 +9,7 @@ mod hearing;
 mod places;
 mod say;
 
-use libc::STDIN_FILENO;
+use input::STDIN;
 
 // Nothing says that the input ends, so the turns are counted down from a number that no input uses up.
 fn main() {
@@ -22,7 +22,7 @@ fn main() {
 // One case: 128 bytes. Answers whether there was one.
 fn one() -> bool {
     let mut case = [0u8; 128];
-    let n = io::read_full(STDIN_FILENO, &mut case);
+    let n = io::read_full(STDIN, &mut case);
     if n < 128 {
         return false;
     }

@@ -1,22 +1,22 @@
 // What is printed: numbers, each followed by a space, and the line's end.
-use libc::STDOUT_FILENO;
+use input::STDOUT;
 
 // A number.
 pub fn number(n: usize) {
-    io::print_decimal(STDOUT_FILENO, n as u64);
-    io::write_all(STDOUT_FILENO, b" ");
+    io::print_decimal(STDOUT, n as u64);
+    io::write_all(STDOUT, b" ");
 }
 
 // A result of the C boundary.
 pub fn result(x: i32) {
     let mut room = [b' '; 12];
     decimals::put_signed(&mut room, 0, x);
-    io::write_all(STDOUT_FILENO, &room);
+    io::write_all(STDOUT, &room);
 }
 
 // The line's end.
 pub fn end() {
-    io::write_all(STDOUT_FILENO, b"\n");
+    io::write_all(STDOUT, b"\n");
 }
 
 // Bytes.

@@ -1,6 +1,6 @@
 // A line, laid into a buffer and written. Each answers whether it was written.
 use blocks::Cause;
-use libc::STDOUT_FILENO;
+use input::STDOUT;
 use lines::{Form, Line};
 
 // The line of a refused recording.
@@ -55,5 +55,5 @@ pub fn subframe(k: u32, n: u32, elements: &[i32]) -> bool {
 // Writes the first bytes of a buffer.
 fn written(out: &[u8], end: usize) -> bool {
     let kept = text::least(end, out.len());
-    io::write_all(STDOUT_FILENO, &out[..kept])
+    io::write_all(STDOUT, &out[..kept])
 }

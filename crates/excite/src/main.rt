@@ -5,32 +5,32 @@ mod frames;
 mod line;
 
 use blocks::Ending;
-use input::Input;
-use libc::STDERR_FILENO;
+use input::{Input, STDERR};
+use std::env::{Env, FillError};
 
 // The program takes no argument: with one it says how it is used, and reads nothing.
-fn main() {
-    if 1 < os::arg_count() {
-        io::write_all(STDERR_FILENO, b"usage: oatlantern-excite <recording\n");
+fn main(rt: HostRuntime) {
+    if !matches!(rt.arg(1, &mut []), Err(FillError::NotPresent)) {
+        io::write_all(STDERR, b"usage: oatlantern-excite <recording\n");
         return;
     }
-    excite_input();
+    excite_input(&rt);
 }
 
 // A recording has at most 65,536 bytes: one byte more is too long, however many follow it.
-fn excite_input() {
+fn excite_input(rt: &HostRuntime) {
     let mut recording = [0u8; 65537];
-    match input::read_all(&mut recording) {
+    match input::read_all(&mut rt.stdin(), &mut recording) {
         Input::Failed => {
             io::write_all(
-                STDERR_FILENO,
+                STDERR,
                 b"oatlantern-excite: standard input cannot be read\n",
             );
         }
         Input::Bytes(n) => {
             if !excite(&recording[..n]) {
                 io::write_all(
-                    STDERR_FILENO,
+                    STDERR,
                     b"oatlantern-excite: standard output cannot be written\n",
                 );
             }

@@ -1,5 +1,5 @@
 // A line: words and numbers, one space apart, laid into a buffer that is written where the line ends.
-use libc::STDOUT_FILENO;
+use input::STDOUT;
 use lines::Line;
 
 // Room for the longest line.
@@ -34,7 +34,7 @@ pub fn listed(line: Line) -> bool {
 // The same by a buffer of any length.
 fn put_line(out: &mut [u8], line: Line) -> bool {
     let next = lines::put(out, 0, line);
-    io::write_all(STDOUT_FILENO, &out[..next])
+    io::write_all(STDOUT, &out[..next])
 }
 
 // Writes the line as far as it was laid, with a newline. Answers whether it was written.
@@ -45,5 +45,5 @@ pub fn written(out: &mut [u8; 1024], at: usize) -> bool {
 // The same of a buffer of any length.
 fn write_to(out: &mut [u8], at: usize) -> bool {
     let next = text::put_byte(out, at, b'\n');
-    io::write_all(STDOUT_FILENO, &out[..next])
+    io::write_all(STDOUT, &out[..next])
 }

@@ -5,34 +5,31 @@
 mod frames;
 mod line;
 
-use input::Input;
-use libc::STDERR_FILENO;
+use input::{Input, STDERR};
 use lines::Line;
 use recording::{Judged, Summary};
+use std::env::{Env, FillError};
 
 // The program takes no argument: with one it says how it is used, and reads nothing.
-fn main() {
-    if 1 < os::arg_count() {
-        io::write_all(STDERR_FILENO, b"usage: oatlantern-hear <recording\n");
+fn main(rt: HostRuntime) {
+    if !matches!(rt.arg(1, &mut []), Err(FillError::NotPresent)) {
+        io::write_all(STDERR, b"usage: oatlantern-hear <recording\n");
         return;
     }
-    hear_input();
+    hear_input(&rt);
 }
 
 // A recording has at most 65,536 bytes: one byte more is too long, however many follow it.
-fn hear_input() {
+fn hear_input(rt: &HostRuntime) {
     let mut recording = [0u8; 65537];
-    match input::read_all(&mut recording) {
+    match input::read_all(&mut rt.stdin(), &mut recording) {
         Input::Failed => {
-            io::write_all(
-                STDERR_FILENO,
-                b"oatlantern-hear: standard input cannot be read\n",
-            );
+            io::write_all(STDERR, b"oatlantern-hear: standard input cannot be read\n");
         }
         Input::Bytes(n) => {
             if !hear(&recording[..n]) {
                 io::write_all(
-                    STDERR_FILENO,
+                    STDERR,
                     b"oatlantern-hear: standard output cannot be written\n",
                 );
             }

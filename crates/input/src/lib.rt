@@ -5,7 +5,14 @@
 ghost use Rattle.std.specs.Prelude.{◌≤◌, length};
 ghost use Rattle.input.specs.Input.{count_read};
 
-use libc::STDIN_FILENO;
+use std::io::Read;
+
+// The numbers of the three streams, for what writes to them or reads them itself.
+pub const STDIN: i32 = 0;
+
+pub const STDOUT: i32 = 1;
+
+pub const STDERR: i32 = 2;
 
 // How many bytes were read, or that a read failed.
 #[derive(Clone, Copy)]
@@ -15,16 +22,14 @@ pub enum Input {
 }
 
 // Reads until the buffer is full or the input ends.
-pub fn read_all(buf: &mut [u8]) -> Input
+pub fn read_all(stdin: &mut impl Read, buf: &mut [u8]) -> Input
     ensures { count_read result ≤ length buf.new }
 {
     let mut done = 0;
     while done < buf.len() {
-        let got = libc::read(STDIN_FILENO, &mut buf[done..]);
-        if got < 0 {
+        let Ok(more) = stdin.read(&mut buf[done..]) else {
             return Input::Failed;
-        }
-        let more = io::count(got, &buf[done..]);
+        };
         if more == 0 {
             return Input::Bytes(done);
         }

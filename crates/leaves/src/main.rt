@@ -13,11 +13,11 @@ mod room;
 
 ghost use Rattle.std.specs.Prelude.{◌≤◌, length};
 
-use libc::{STDIN_FILENO, STDOUT_FILENO};
+use input::{STDIN, STDOUT};
 
 fn main() {
     let mut cases = io::large_buffer();
-    let n = io::read_full(STDIN_FILENO, &mut cases);
+    let n = io::read_full(STDIN, &mut cases);
     run(&cases[..n]);
 }
 
@@ -66,8 +66,8 @@ fn through(s: &[u8], before: u64, printing: bool) -> u64
 
 // Prints a number on a line.
 fn print(n: u64) {
-    io::print_decimal(STDOUT_FILENO, n);
-    io::write_all(STDOUT_FILENO, b"\n");
+    io::print_decimal(STDOUT, n);
+    io::write_all(STDOUT, b"\n");
 }
 
 // The number for the answer to a case, by its kind.

@@ -4,12 +4,11 @@
 
 ghost use Rattle.std.specs.Prelude.{◌≤◌, length};
 
-use input::Input;
-use libc::STDOUT_FILENO;
+use input::{Input, STDOUT};
 
-fn main() {
+fn main(rt: HostRuntime) {
     let mut case = [0u8; 65539];
-    match input::read_all(&mut case) {
+    match input::read_all(&mut rt.stdin(), &mut case) {
         Input::Failed => {}
         Input::Bytes(n) => {
             let mut buffer = filled();
@@ -44,11 +43,11 @@ fn listed_in(recording: &[u8], room: usize, buffer: &mut [u8]) {
 fn salvaged(recording: &[u8], out: &mut [u8]) {
     let mut changes = [9usize; 5];
     let result = mender::oatlantern_salvage(recording, out, &mut changes);
-    io::write_all(STDOUT_FILENO, b"salvage");
+    io::write_all(STDOUT, b"salvage");
     say_result(result);
     say_five(&changes);
-    io::write_all(STDOUT_FILENO, b"\n");
-    io::write_all(STDOUT_FILENO, &out[..]);
+    io::write_all(STDOUT, b"\n");
+    io::write_all(STDOUT, &out[..]);
 }
 
 // Lists a recording into a buffer, and shows it.
@@ -56,12 +55,12 @@ fn listed(recording: &[u8], out: &mut [u8]) {
     let mut end = [9usize; 1];
     let mut told = [9usize; 5];
     let result = lister::oatlantern_list(recording, out, &mut end, &mut told);
-    io::write_all(STDOUT_FILENO, b"list");
+    io::write_all(STDOUT, b"list");
     say_result(result);
     say_number(end[0]);
     say_five(&told);
-    io::write_all(STDOUT_FILENO, b"\n");
-    io::write_all(STDOUT_FILENO, &out[..]);
+    io::write_all(STDOUT, b"\n");
+    io::write_all(STDOUT, &out[..]);
 }
 
 // A result, behind a space.
@@ -81,14 +80,14 @@ fn say_five(numbers: &[usize; 5]) {
 }
 
 fn say_number(number: usize) {
-    io::write_all(STDOUT_FILENO, b" ");
-    io::print_decimal(STDOUT_FILENO, number as u64);
+    io::write_all(STDOUT, b" ");
+    io::print_decimal(STDOUT, number as u64);
 }
 
 // The first bytes of a buffer.
 fn say_bytes(bytes: &[u8], end: usize) {
     let kept = text::least(end, bytes.len());
-    io::write_all(STDOUT_FILENO, &bytes[..kept]);
+    io::write_all(STDOUT, &bytes[..kept]);
 }
 
 // The length of the buffer for what is salvaged: the number in the first two bytes, 0 standing for 65,536.

@@ -1,33 +1,30 @@
 // Lists one recording from standard input: the listing, or the one line of its refusal, to standard output.
 #![tactic(auto)]
 
-use input::Input;
-use libc::{STDERR_FILENO, STDOUT_FILENO};
+use input::{Input, STDERR, STDOUT};
 use listing::Listed;
+use std::env::{Env, FillError};
 
 // The program takes no argument: with one it says how it is used, and reads nothing.
-fn main() {
-    if 1 < os::arg_count() {
-        io::write_all(STDERR_FILENO, b"usage: oatlantern-list <recording\n");
+fn main(rt: HostRuntime) {
+    if !matches!(rt.arg(1, &mut []), Err(FillError::NotPresent)) {
+        io::write_all(STDERR, b"usage: oatlantern-list <recording\n");
         return;
     }
-    list_input();
+    list_input(&rt);
 }
 
 // A recording has at most 65,536 bytes: one byte more is too long, however many follow it.
-fn list_input() {
+fn list_input(rt: &HostRuntime) {
     let mut recording = [0u8; 65537];
-    match input::read_all(&mut recording) {
+    match input::read_all(&mut rt.stdin(), &mut recording) {
         Input::Failed => {
-            io::write_all(
-                STDERR_FILENO,
-                b"oatlantern-list: standard input cannot be read\n",
-            );
+            io::write_all(STDERR, b"oatlantern-list: standard input cannot be read\n");
         }
         Input::Bytes(n) => {
             if !list(&recording[..n]) {
                 io::write_all(
-                    STDERR_FILENO,
+                    STDERR,
                     b"oatlantern-list: standard output cannot be written\n",
                 );
             }
@@ -40,7 +37,7 @@ fn list(s: &[u8]) -> bool {
     let mut text = blank();
     match listing::list(s, &mut text) {
         Listed::WrongLength => true,
-        Listed::Text(end) => io::write_all(STDOUT_FILENO, &text[..end]),
+        Listed::Text(end) => io::write_all(STDOUT, &text[..end]),
     }
 }
 

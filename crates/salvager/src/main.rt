@@ -5,36 +5,33 @@
 ghost use Rattle.std.specs.Prelude.{◌≡◌};
 ghost use Rattle.salvage.specs.Salvaging.{long_of};
 
-use input::Input;
-use libc::{STDERR_FILENO, STDOUT_FILENO};
+use input::{Input, STDERR, STDOUT};
 use salvage::Salvaged;
+use std::env::{Env, FillError};
 
 // The program takes no argument: with one it says how it is used, and reads nothing.
-fn main() {
-    if 1 < os::arg_count() {
-        io::write_all(
-            STDERR_FILENO,
-            b"usage: oatlantern-salvage <recording >salvaged\n",
-        );
+fn main(rt: HostRuntime) {
+    if !matches!(rt.arg(1, &mut []), Err(FillError::NotPresent)) {
+        io::write_all(STDERR, b"usage: oatlantern-salvage <recording >salvaged\n");
         return;
     }
-    salvage_input();
+    salvage_input(&rt);
 }
 
 // A recording has at most 65,536 bytes: one byte more is too long, however many follow it.
-fn salvage_input() {
+fn salvage_input(rt: &HostRuntime) {
     let mut recording = [0u8; 65537];
-    match input::read_all(&mut recording) {
+    match input::read_all(&mut rt.stdin(), &mut recording) {
         Input::Failed => {
             io::write_all(
-                STDERR_FILENO,
+                STDERR,
                 b"oatlantern-salvage: standard input cannot be read\n",
             );
         }
         Input::Bytes(n) => {
             if !salvage(&recording[..n]) {
                 io::write_all(
-                    STDERR_FILENO,
+                    STDERR,
                     b"oatlantern-salvage: standard output cannot be written\n",
                 );
             }
@@ -47,7 +44,7 @@ fn salvage(s: &[u8]) -> bool {
     let mut result = blank();
     let salvaged = restorer::salvage(s, &mut result);
     let long = length(s.len(), salvaged);
-    if !io::write_all(STDOUT_FILENO, &result[..long]) {
+    if !io::write_all(STDOUT, &result[..long]) {
         return false;
     }
     tell(salvaged);
@@ -69,7 +66,7 @@ fn length(long: usize, salvaged: Salvaged) -> usize
 fn tell(salvaged: Salvaged) {
     let mut lines = [0u8; 128];
     let end = changes::put(&mut lines, 0, salvaged);
-    io::write_all(STDERR_FILENO, &lines[..end]);
+    io::write_all(STDERR, &lines[..end]);
 }
 
 // Room for the longest recording.

@@ -8,9 +8,9 @@ mod words;
 
 use input::Input;
 
-fn main() {
+fn main(rt: HostRuntime) {
     let mut calls = [0u8; 262144];
-    match input::read_all(&mut calls) {
+    match input::read_all(&mut rt.stdin(), &mut calls) {
         Input::Failed => {}
         Input::Bytes(n) => {
             let mut book = [0u32; tally::WORDS];

@@ -1,5 +1,5 @@
 // What a call answers, and its line.
-use libc::STDOUT_FILENO;
+use input::STDOUT;
 
 #[derive(Clone, Copy)]
 pub enum Said {
@@ -47,7 +47,7 @@ fn say_entered(res: i32) {
 
 fn say_refused(res: i32) {
     say_words(b"refused ");
-    io::print_decimal(STDOUT_FILENO, number_of(res));
+    io::print_decimal(STDOUT, number_of(res));
 }
 
 // The refusal that a result is.
@@ -81,19 +81,19 @@ fn say_not_held(count: u32) {
 
 // Two of the numbers that are told.
 fn say_told(first: usize, second: usize) {
-    io::print_decimal(STDOUT_FILENO, first as u64);
+    io::print_decimal(STDOUT, first as u64);
     say_words(b" ");
-    io::print_decimal(STDOUT_FILENO, second as u64);
+    io::print_decimal(STDOUT, second as u64);
     say_words(b" ");
 }
 
 // A word and a number on a line.
 fn say_number(word: &[u8], number: u64) {
     say_words(word);
-    io::print_decimal(STDOUT_FILENO, number);
+    io::print_decimal(STDOUT, number);
     say_words(b"\n");
 }
 
 fn say_words(words: &[u8]) {
-    io::write_all(STDOUT_FILENO, words);
+    io::write_all(STDOUT, words);
 }

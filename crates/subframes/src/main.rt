@@ -4,7 +4,7 @@
 
 mod case;
 
-use libc::{STDIN_FILENO, STDOUT_FILENO};
+use input::{STDIN, STDOUT};
 
 // Nothing says that the input ends, so the turns are counted down from a number that no input uses up.
 fn main() {
@@ -17,7 +17,7 @@ fn main() {
 // One case: 604 bytes. Answers whether there was one.
 fn one() -> bool {
     let mut given = [0u8; 604];
-    let n = io::read_full(STDIN_FILENO, &mut given);
+    let n = io::read_full(STDIN, &mut given);
     if n < 604 {
         return false;
     }
@@ -62,5 +62,5 @@ fn told(res: i32, room: &[i32], past: &[i32; 147]) {
     let buffer = decimals::put_list(&mut out, number, room);
     let after = decimals::put_list(&mut out, buffer, past);
     let end = text::put_byte(&mut out, after, b'\n');
-    io::write_all(STDOUT_FILENO, &out[..end]);
+    io::write_all(STDOUT, &out[..end]);
 }
