@@ -7,25 +7,21 @@ use Rattle.gateway.proofs.Answered.{wrong_frame, not_put, was_read}
 use Rattle.laws.proofs.Clauses.{clauses}
 use Rattle.gateway.proofs.oatlantern_read_frame.Goals as goal
 
--- where number and kind have been asked for, `read` was four places before
-small : (c : goal.After-kind_of-kind)
-    → 16 * c.read-reading.result.mark + c.number_for-number.result + c.kind_of-kind.result
-    < 672
-small c =
-    rw (c.kind_of-kind.ensures, c.number_for-number.ensures, c.read-reading.ensures)
-    (reading_small _)
-
 pub overflow_mul-result : goal.overflow_mul-result
-overflow_mul-result c = let h = small c.before.before.before.before.before.before in omega (arith, h)
+overflow_mul-result c = let h : 16 * c.read-reading.result.mark + c.number_for-number.result + c.kind_of-kind.result < 672 =
+    rw (c.kind_of-kind.ensures, c.number_for-number.ensures, c.read-reading.ensures) (reading_small _) in omega (arith, h)
 
 pub overflow_add-result : goal.overflow_add-result
-overflow_add-result c = let h = small c.before.before.before.before.before.before in omega (arith, h)
+overflow_add-result c = let h : 16 * c.read-reading.result.mark + c.number_for-number.result + c.kind_of-kind.result < 672 =
+    rw (c.kind_of-kind.ensures, c.number_for-number.ensures, c.read-reading.ensures) (reading_small _) in omega (arith, h)
 
 pub overflow_add-result-then-put : goal.overflow_add-result-then-put
-overflow_add-result-then-put c = let h = small c.before.before.before.before.before.before in omega (arith, h)
+overflow_add-result-then-put c = let h : 16 * c.read-reading.result.mark + c.number_for-number.result + c.kind_of-kind.result < 672 =
+    rw (c.kind_of-kind.ensures, c.number_for-number.ensures, c.read-reading.ensures) (reading_small _) in omega (arith, h)
 
 pub overflow_cast-result : goal.overflow_cast-result
-overflow_cast-result c = let h = small c.before.before.before.before.before.before in sfits_of (omega (arith, h))
+overflow_cast-result c = let h : 16 * c.read-reading.result.mark + c.number_for-number.result + c.kind_of-kind.result < 672 =
+    rw (c.kind_of-kind.ensures, c.number_for-number.ensures, c.read-reading.ensures) (reading_small _) in sfits_of (omega (arith, h))
 
 pub returns-then-put : goal.returns-then-put
 returns-then-put c = clauses (λ value out_after. record { value = value; out_after = out_after }) (was_read _ _ _ c.read-reading.ensures c.in-Read.is c.number_for-number.ensures c.kind_of-kind.ensures

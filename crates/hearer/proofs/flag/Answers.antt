@@ -4,7 +4,7 @@ use mathlib.Core.Bool.{Bool, cond}
 use Prim.Native.Nat.{ℕ}
 use Rattle.hearer.proofs.flag.Goals as goal
 
-told : Bool → ℕ
+abbrev told : Bool → ℕ
 told b = cond b 1 0
 
 pub returns-then-yes : goal.returns-then-yes

@@ -1,0 +1,12 @@
+-- `excite::excite_input` is safe: the bytes read are within their buffer.
+use borrow.Author.Rules.{rules}
+use Rattle.input.proofs.Laws.{read_within, read_long}
+use Rattle.excite.proofs.excite_input.Goals as goal
+
+pub slice_bounds-recording-end : goal.slice_bounds-recording-end
+slice_bounds-recording-end c =
+    read_within _ _ _ c.read_all.ensures c.in-Bytes.is
+
+pub slice_bounds-excite-end : goal.slice_bounds-excite-end
+slice_bounds-excite-end c =
+    read_long _ _ _ c.read_all.ensures c.in-Bytes.is

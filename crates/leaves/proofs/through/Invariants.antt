@@ -1,0 +1,9 @@
+-- `leaves::through` is safe and ends: a case ends after it begins.
+use Rattle.std.proofs.Common.{◌-◌, length, arith, rules}
+use Rattle.leaves.proofs.through.Given as goal
+
+abbrev pub invariant-loop-at : goal.invariant-loop-at
+invariant-loop-at l = Unit {0}
+
+abbrev pub decreases-loop-at : goal.decreases-loop-at
+decreases-loop-at l = length l.s - l.at

@@ -1,0 +1,14 @@
+-- `list::list` is safe: the text laid is within its buffer.
+use mathlib.Core.Path.{◌∙◌, sym}
+use borrow.Author.Rules.{rules}
+use lib.Seq.{length-take-le}
+use Rattle.listing.proofs.Laws.{text_within}
+use Rattle.list.proofs.list.Goals as goal
+
+pub slice_bounds-text-end : goal.slice_bounds-text-end
+slice_bounds-text-end c =
+    let p = (c.list.ensures.value, c.list.ensures.out_after) in text_within _ _ _ _ (sym c.in-Text.is ∙ p.0) p.1
+
+pub slice_bounds-write_all-end : goal.slice_bounds-write_all-end
+slice_bounds-write_all-end c =
+    let p = (c.list.ensures.value, c.list.ensures.out_after) in sym (length-take-le _ _ (text_within _ _ _ _ (sym c.in-Text.is ∙ p.0) p.1))

@@ -1,0 +1,13 @@
+-- `subframes::made` is safe and ends: the buffer keeps its length from turn to turn.
+use mathlib.Core.Path.{◌≡◌, ◌∙◌, refl, ap}
+use Prim.Native.Nat.{◌-◌}
+use native.Mathlib.Omega.{arith}
+use lib.ListN.{length}
+use Rattle.excitation.proofs.Laws.{left_length}
+use Rattle.subframes.proofs.made.Given as goal
+
+abbrev pub invariant-loop-k : goal.invariant-loop-k
+invariant-loop-k l = length l.out ≡ length l.initial.out
+
+abbrev pub decreases-loop-k : goal.decreases-loop-k
+decreases-loop-k l = l.times - l.k
