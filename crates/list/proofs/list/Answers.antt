@@ -7,8 +7,8 @@ use Rattle.list.proofs.list.Goals as goal
 
 pub slice_bounds-text-end : goal.slice_bounds-text-end
 slice_bounds-text-end c =
-    let p = (c.list.ensures.value, c.list.ensures.out_after) in text_within _ _ _ _ (sym c.in-Text.is ∙ p.0) p.1
+    text_within _ _ _ _ (sym c.in-Text.is ∙ c.list.ensures.value) c.list.ensures.out_after
 
 pub slice_bounds-write_all-end : goal.slice_bounds-write_all-end
 slice_bounds-write_all-end c =
-    let p = (c.list.ensures.value, c.list.ensures.out_after) in sym (length-take-le _ _ (text_within _ _ _ _ (sym c.in-Text.is ∙ p.0) p.1))
+    sym (length-take-le _ _ (text_within _ _ _ _ (sym c.in-Text.is ∙ c.list.ensures.value) c.list.ensures.out_after))

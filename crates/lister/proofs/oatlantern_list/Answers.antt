@@ -2,18 +2,19 @@
 use mathlib.Core.Path.{◌∙◌}
 use borrow.Author.Rules.{rules, sfits_of}
 use mir.Facts.{to_z-of_z}
+use mir.Syntax.{w32}
 use Rattle.lister.proofs.Told.{no_room, was_listed}
 use Rattle.laws.proofs.Clauses.{clauses}
 use Rattle.lister.proofs.oatlantern_list.Goals as goal
 
 pub returns-in-WrongLength : goal.returns-in-WrongLength
 returns-in-WrongLength c =
-    let l = (c.list.ensures.value, c.list.ensures.out_after) in let t = no_room _ _ _ l.0 c.in-WrongLength.is in
-    clauses (λ value. clauses (λ text_after. clauses (λ ending_after told_after. record { value = value; text_after = text_after; ending_after = ending_after; told_after = told_after }))) ((t.0, (l.1, t.1)))
+    let t = no_room _ _ _ c.list.ensures.value c.in-WrongLength.is in
+    clauses (λ value. clauses (λ text_after. clauses (λ ending_after told_after. record { value = value; text_after = text_after; ending_after = ending_after; told_after = told_after }))) ((t.0, (c.list.ensures.out_after, t.1)))
 
 pub returns-in-Text : goal.returns-in-Text
 returns-in-Text c =
-    let l = (c.list.ensures.value, c.list.ensures.out_after) in let t =
-    was_listed _ _ _ l.0 c.in-Text.is (to_z-of_z (sfits_of c.tell.type_inv) ∙ c.tell.ensures.value)
+    let t =
+    was_listed _ _ _ c.list.ensures.value c.in-Text.is (to_z-of_z {w = w32} (sfits_of c.tell.type_inv) ∙ c.tell.ensures.value)
     c.tell.ensures.told_after in
-    clauses (λ value. clauses (λ text_after. clauses (λ ending_after told_after. record { value = value; text_after = text_after; ending_after = ending_after; told_after = told_after }))) ((t.0, (l.1, t.1)))
+    clauses (λ value. clauses (λ text_after. clauses (λ ending_after told_after. record { value = value; text_after = text_after; ending_after = ending_after; told_after = told_after }))) ((t.0, (c.list.ensures.out_after, t.1)))

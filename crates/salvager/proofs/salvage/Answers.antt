@@ -7,8 +7,8 @@ use Rattle.salvager.proofs.salvage.Goals as goal
 
 pub slice_bounds-result-end : goal.slice_bounds-result-end
 slice_bounds-result-end c =
-    let p = (c.salvage-salvaged.ensures.value, c.salvage-salvaged.ensures.out_after) in result_within _ _ _ _ _ p.0 p.1 c.length-long.ensures
+    result_within _ _ _ _ _ c.salvage-salvaged.ensures.value c.salvage-salvaged.ensures.out_after c.length-long.ensures
 
 pub slice_bounds-write_all-end : goal.slice_bounds-write_all-end
 slice_bounds-write_all-end c =
-    let p = (c.salvage-salvaged.ensures.value, c.salvage-salvaged.ensures.out_after) in sym (length-take-le _ _ (result_within _ _ _ _ _ p.0 p.1 c.length-long.ensures))
+    sym (length-take-le _ _ (result_within _ _ _ _ _ c.salvage-salvaged.ensures.value c.salvage-salvaged.ensures.out_after c.length-long.ensures))
