@@ -65,11 +65,11 @@ def archived(tree, folder):
                 shutil.copytree(crate / part, folder / "crates" / crate.name / part)
     (folder / "crates/belt/src").mkdir(parents=True)
     shutil.copy(HERE / "exports.txt", folder / "crates/belt/src/lib.rt")
-    (folder / "crates.txt").write_text(f"{(tree / 'crates.txt').read_text(encoding='utf-8')}\nbelt: {USES}\n", encoding="utf-8")
-    done = subprocess.run(["rt", "staticlib", "belt"], cwd=folder, capture_output=True, text=True, check=False)
+    (folder / "crates.txt").write_text(f"{(tree / 'crates.txt').read_text(encoding='utf-8')}\nbelt staticlib: {USES}\n", encoding="utf-8")
+    done = subprocess.run(["rt", "lib"], cwd=folder / "crates/belt", capture_output=True, text=True, check=False)
     if done.returncode:
         sys.exit(f"the archive is not built:\n{done.stdout}{done.stderr}")
-    return folder / "target/staticlib/libbelt.a"
+    return folder / "crates/belt/out/libbelt.a"
 
 
 class Calls:
