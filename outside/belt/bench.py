@@ -7,7 +7,7 @@ TREE is a checkout, this one if not said, so that one commit can be held beside 
 and built into an archive for C, by a crate that is made for it alone (exports.txt); `size` tells the archive's bytes.
 Then a program in C (calls.c) calls `meanings::meaning` of the archive, and what stands in for it in plain C (plain.c):
 once with the twelfths of a rank in a table, once worked out. On x86-64 a figure is nanoseconds a call, the best of
-several; on any other machine it is instructions a call, as the kit's emulator counts them. What calling alone takes is
+several; on any other machine it is instructions a call, as the emulator counts them. What calling alone takes is
 taken off: it is measured with a function that does nothing.
 
 A figure is the difference between many rounds and few over the same cases: every byte once in subframe 1 and once in

@@ -4,7 +4,7 @@
     outside/book/bench.py [SHEET]
 
 SHEET is the program that makes calls on a tally book, crates/sheet/out/sheet if not said. On x86-64 a figure is nanoseconds a
-call, the best of several. On any other machine it is instructions a call: the kit's emulator (`run`) executes one at a
+call, the best of several. On any other machine it is instructions a call: the emulator (`run`) executes one at a
 time and logs it, and the lines of the log are counted. That depends on nothing else that runs, and says nothing of
 caches and branches. CC and CXX may be set.
 
