@@ -1,72 +1,45 @@
 #!/usr/bin/env python3
-"""Reads the log of each must-fail edit and says which fact no longer holds.
+"""Reads what `rt ci` said of each must-fail edit, and holds it to this: the edit is refused because a fact fails.
 
-    edits.py          a line for each edit: the crate, the edit, where the prover first refused it, and what it said
-    edits.py --check  the same in short; fails where an edit has no log or its log starts with anything but a fact that fails
+    edits.py [LOG]    LOG is what `rt ci` printed, target/gate/rt-ci.log if not said
 
-A refusal counts only if a fact fails: what was to be shown does not follow, or is not what was shown. A proof file that no longer
-fits the code (a name out of scope, a place that is gone) shows nothing about the program, nor does a refusal that finds the two types to
-be identical, nor one that finds an equation of truth values (a test of `a & b`) where a fact about numbers is asked for: an equal program
-would get it too. What only follows from an earlier refusal ("was not admitted") is passed over. That the edited program is a wrong one is not
-shown here but by running it: wrong.py. The last line is `N cases, M faults`.
+rt tells apart what a refusal shows. An edit that cannot be applied, compiled or read is a BAD EDIT, and fails nothing there; it does here. So
+does one that is refused only because a proof file names what the edit took away, or only by a limit of the prover: neither shows
+anything of a contract. An edit that is still proved (NOT REFUSED) or was not tried fails in both. Each edit of the repository has to have its
+line. That the edited program is a wrong one is not shown here but by running it: wrong.py. The last line is `N cases, M faults`; the exit is
+1 where there is a fault or no case.
 """
 
 import re
 import sys
+from pathlib import Path
 
 from sources import ROOT, edits
 
-FACTS = [
-    r"the two (types|sides) (differ only where|first differ where|are `)",
-    r"expected type `.*but this has type `",
-    r"`omega`: the goal does not follow",
-    r"`search`: no proof of",
-    r"it is not proved that",
-]
-NO_FACTS = [
-    r"(?<!bytes of )the two (types|sides) are identical",
-    r"the two types are `Path Prim\.Native\.Nat\.ℕ .*\(expected\) and `Path mathlib\.Core\.Bool\.Bool ",
-]
-MESSAGE = re.compile(r"^(?:note: )?(?P<file>\S+?):(?P<line>\d+):\d+: (?:(?:error|note): (?:`(?P<lemma>[^`]*)`: )?)?(?P<said>.*)$")
-
-
-def first_refusal(log):
-    """The first message that does not follow from another: where, in which lemma, and what was said, to the next message."""
-    lines = log.read_text(encoding="utf-8", errors="replace").splitlines()
-    for n, line in enumerate(lines):
-        found = MESSAGE.match(line)
-        if not found or (": error: " not in line and "it is not proved that" not in line) or "was not admitted" in line:
-            continue
-        end = next((m for m in range(n + 1, len(lines)) if not lines[m].startswith("  ")), len(lines))
-        where = found["file"].split(f"/{log.parent.name}/", 1)[-1]
-        return f"{where}:{found['line']}", found["lemma"] or "", " ".join([found["said"], *(more.strip() for more in lines[n + 1:end])])
-    return None
+TOLD = re.compile(r"^rt: must-fail (?P<edit>\S+)\.edit: (?P<said>.*)$", re.M)
+REFUSED = "refused, as it must be"
 
 
 def is_fact(said):
-    return any(re.search(form, said) for form in FACTS) and not any(re.search(form, said) for form in NO_FACTS)
+    """Whether what rt says of an edit is that a fact fails."""
+    return said.startswith(f"{REFUSED}: ")
 
 
 def main():
-    short = sys.argv[1:] == ["--check"]
-    if sys.argv[1:] and not short:
+    if len(sys.argv) > 2:
         sys.exit(__doc__)
-    wrong, cases = 0, 0
-    for edit in edits():
-        cases += 1
-        log = ROOT / "target" / "must-fail" / edit.crate / edit.label / ".log"
-        refusal = first_refusal(log) if log.exists() else None
-        if refusal is None:
-            wrong += 1
-            print(f"{edit}: no refusal in its log")
-            continue
-        where, lemma, said = refusal
-        fact = is_fact(said)
-        wrong += not fact
-        if not fact or not short:
-            print(f"{edit}: {'' if fact else 'NO FACT: '}{where} {lemma}: {said[:160]}")
-    print(f"the logs of {cases} cases read, {wrong} faults: no fact that fails")
-    return 1 if wrong or not cases else 0
+    log = Path(sys.argv[1] if len(sys.argv) == 2 else ROOT / "target/gate/rt-ci.log")
+    told = {}
+    for found in TOLD.finditer(log.read_text(encoding="utf-8", errors="replace")):
+        told.setdefault(found["edit"], []).append(found["said"])
+    names = [str(edit) for edit in edits()]
+    faults = [f"{name}: {'; '.join(told.get(name, [])) or 'rt ci said nothing of it'}" for name in names
+              if len(told.get(name, [])) != 1 or not is_fact(told[name][0])]
+    faults += [f"{name}: rt ci tried it, and it is not there" for name in told if name not in names]
+    for fault in faults:
+        print(fault)
+    print(f"what rt ci said of {len(names)} cases read, {len(faults)} faults")
+    return 1 if faults or not names else 0
 
 
 if __name__ == "__main__":

@@ -9,14 +9,16 @@ count for it: edits that change that function, or a private step or a constant t
 under "Other edits of code", every edit of specs/ under "Edits of definitions"; every statement stands under a demand and on the page; and
 no page names a statement, an edit or a proof that is not there. A determination proof takes two results that the function's own contract
 allows for the same arguments and concludes that they are equal, and with them each buffer that was lent to be written. Only a function
-that calls C or reads has the word `exception` for it, and is named under "Exceptions" with why. The last line is `N cases, M faults`;
-the exit is 1 where there is a fault.
+that calls C or is lent a reader has the word `exception` for it, and is named under "Exceptions" with why. A part of the archive (a static
+library) has no rows: each of its functions has the parameters and the contract of the library's function of its name, word for word, and
+only calls it; and each function that a library has for C is in one part. The last line is `N cases, M faults`; the exit is 1 where there is
+a fault.
 """
 
 import re
 import sys
 
-from sources import CRATES, ROOT, Sources, changed, edits
+from sources import CRATES, ROOT, Sources, archived, changed, edits
 
 PAGE = (ROOT / "docs/PROMISES.md").read_text(encoding="utf-8")
 HANDBOOK = (ROOT / "docs/HANDBOOK.md").read_text(encoding="utf-8")
@@ -41,7 +43,7 @@ def section(title, end):
 SOURCES = Sources()
 for fault in SOURCES.faults:
     hold(False, fault)
-LIBRARIES = [crate for crate in SOURCES.listed if SOURCES.files[crate, ()].file == "src/lib.rt"]
+LIBRARIES = [crate for crate in SOURCES.listed if SOURCES.files[crate, ()].file == "src/lib.rt" and crate not in archived()]
 EDITS = {}
 for edit in edits():
     EDITS.setdefault(edit.crate, {})[edit.label] = edit
@@ -50,18 +52,16 @@ for edit in edits():
 # ---- determination proofs
 
 KIT = {
-    "Lfts": "contract.Lifetimes",
-    "AtExit": "denote.Triple.Clauses",
-    "now": "denote.Ref",
-    "ptr": "denote.Ref",
-    "Dens": "borrow.Fn.Kinds",
-    "resT": "borrow.Fn.Kinds",
-    "endedOf": "borrow.Fn.Kinds",
-    "_≡_": "mathlib.Core.Path",
+    "Lfts": ["contract.Lifetimes"],
+    "AtExit": ["denote.Triple.Clauses"],
+    "Dens": ["borrow.Fn.Kinds"],
+    "res_t": ["borrow.Fn.Kinds"],
+    "ended_of": ["borrow.Fn.Kinds"],
+    "◌≡◌": ["mathlib.Core.Path", "Rattle.std.proofs.Common", "Rattle.std.specs.Prelude"],
 }
 THEOREM = re.compile(
-    r"\(κs : Lfts (?P<n>\d+)\) \(a : Dens κs (?P<k>\S+)\.ps\) \((?P<r>[a-z]+)₁ (?P=r)₂ : resT (?P=k)\.r κs \.Denot\)"
-    r" \((?P<x>[a-z]+)₁ (?P=x)₂ : AtExit \(endedOf (?P=n) (?P=k)\.ps (?P=k)\.r\) κs\)"
+    r"\(κs : Lfts (?P<n>\d+)\) \(a : Dens κs (?P<k>\S+)\.ps\) \((?P<r>[a-z]+)₁ (?P=r)₂ : \(res_t (?P=k)\.r κs\)\.Denot\)"
+    r" \((?P<x>[a-z]+)₁ (?P=x)₂ : AtExit \(ended_of (?P=n) (?P=k)\.ps (?P=k)\.r\) κs\)"
     r" → (?P<reads>\S+)\.Post κs a (?P=r)₁ (?P=x)₁ → (?P=reads)\.Post κs a (?P=r)₂ (?P=x)₂ → (?P<so>.*)"
 )
 
@@ -98,14 +98,14 @@ class Determined:
                 self.odd.append(f"use {line}")
         text = re.sub(r"^use .*$", "", text, flags=re.M)
         for name, module in brought.items():
-            if name in KIT and module != KIT[name]:
+            if name in KIT and module not in KIT[name]:
                 self.odd.append(f"{name} from {module}")
-        # what stands at the start of a line: `pub NAME-determined : TYPE`, indented lines of it, and its equation
+        # what stands at the start of a line: `pub NAME_determined : TYPE`, indented lines of it, and its equation
         for part in re.split(r"\n(?=\S)", text.strip()):
             part = " ".join(part.split())
-            if told := re.fullmatch(r"pub (\S+-determined) : (.*)", part):
+            if told := re.fullmatch(r"pub (\S+_determined) : (.*)", part):
                 self.says[told[1]] = told[2]
-            elif part and not re.match(r"\S+-determined ", part):
+            elif part and not re.match(r"\S+_determined ", part):
                 self.odd.append(part[:60])
 
     def fault(self, function, name):
@@ -114,7 +114,7 @@ class Determined:
         if not told:
             return "is not of the form that two results which the contract allows for the same arguments are equal"
         path = ".".join(part for part in (function.owner, function.name) if part)
-        root = f"Rattle·{self.crate}·proofs.proofs.{path}"
+        root = f"Rattle.{self.crate}.proofs.{path}"
         for used, module in ((told["k"], "Kinds"), (told["reads"], "Reads")):
             if self.names.get(used) != f"{root}.{module}":
                 return f"speaks of {self.names.get(used, used)}, not of {root}.{module}"
@@ -125,11 +125,11 @@ class Determined:
         both = [f"{told['r']}₁", f"{told['r']}₂"]
         if result and " ≡ ".join(both) not in parts:
             # a part of a lent buffer is the same part if it has the same bytes at the same place
-            if not result.startswith("&") or not {f"{of} {both[0]} ≡ {of} {both[1]}" for of in ("now", "ptr")} <= parts:
+            if not result.startswith("&") or not {f"{both[0]}.{of} ≡ {both[1]}.{of}" for of in ("now", "ref_ptr")} <= parts:
                 return "does not conclude that the results are equal"
         for at in wanted:
-            place = " .1" * at + " .0"
-            if f"now ({told['x']}₁{place}) ≡ now ({told['x']}₂{place})" not in parts:
+            place = ".1" * at + ".0"
+            if f"{told['x']}₁{place}.now ≡ {told['x']}₂{place}.now" not in parts:
                 return f"does not conclude that what parameter {at + 1} lends is left the same"
         if not result and not wanted:
             return "has nothing to conclude"
@@ -178,8 +178,8 @@ for found in EDITS.values():
             PLACES[edit.crate, edit.label] = [None]
 
 
-def calls_c(function):
-    return any(item.calls_c for item in SOURCES.reached([function]) | {function})
+def asks_outside(function):
+    return any(item.asks_outside for item in SOURCES.reached([function]) | {function})
 
 
 ROW = re.compile(r"^\| `(\w+)::([\w:]+)` \|.*$", re.M)
@@ -214,7 +214,7 @@ for crate in LIBRARIES:
         good = [label for label in dict.fromkeys(told) if label in EDITS.get(crate, {}) and EDITS[crate][label].of_code and counts(EDITS[crate][label], function)]
         hold(len(good) >= 2, f"{name}: {len(good)} of its edits count ({', '.join(good) or 'none'}): they change the function or a step that it alone uses; two are needed")
         if cells[3] == "exception":
-            hold(calls_c(function), f"{name}: calls no C and reads nothing, so its answer can be determined")
+            hold(asks_outside(function), f"{name}: calls no C and is lent no reader, so its answer can be determined")
             hold(f"`{name}`" in exceptions, f"{name}: stands under no exceptions")
             continue
         proof = re.fullmatch(r"`([^`]+)`", cells[3])
@@ -228,6 +228,34 @@ for crate in LIBRARIES:
 for name in rows:
     crate, _, path = name.partition("::")
     hold(crate in LIBRARIES and path in {"::".join(p for p in (*f.module, f.owner, f.name) if p) for f in SOURCES.public(crate)}, f"{name} is no public function")
+
+
+# ---- the parts of the archive
+
+def told_of(head):
+    """A function's head by its words, without what says that it is for C."""
+    return re.sub(r"\s+", "", head.replace('extern " "', " ")).replace(",)", ")")
+
+
+exported = {}
+for crate in archived():
+    for item in (item for item in SOURCES.items if item.crate == crate):
+        name = f"{crate}::{item.name}"
+        if not hold(item.kind == "fn" and item.public and 'extern "' in item.head, f"{name} is not for C, and stands in a part of the archive"):
+            continue
+        hold(item.name not in exported, f"{name} is in {exported.get(item.name)} too")
+        exported[item.name] = crate
+        called = [other for other in item.uses if other.name == item.name]
+        if hold(len(called) == 1, f"{name} calls no function of its name"):
+            parameters = ", ".join(parameter.partition(":")[0].strip() for parameter in parted(item.head)[0])
+            call = f"{{ {called[0].crate}::{item.name}({parameters}) }}"
+            hold(" ".join(item.body.split()) == call, f"{name} does more than `{call}`")
+            hold(told_of(item.head) == told_of(called[0].head), f"{name} has not the parameters and the contract of {called[0]}")
+for crate in LIBRARIES:
+    for function in SOURCES.public(crate):
+        if function.name.startswith("oatlantern_"):
+            hold(function.name in exported, f"{function} is in no part of the archive")
+hold(exported, "no function is for C")
 
 
 # ---- the edits that stand in no row
@@ -273,10 +301,10 @@ STATEMENT = re.compile(r"^(?:unfoldable |abbrev )pub ([A-Z]\w+) : Type 0$", re.M
 ROOMS = ["promises", *(crate for crate in LIBRARIES if (CRATES / crate / "specs/Promised.antt").exists())]
 statements = set(STATEMENT.findall("\n".join(stated(crate) for crate in ROOMS)))
 demands = (CRATES / "promises/specs/Demands.antt").read_text(encoding="utf-8")
-gathered = set(re.findall(r"^  pub [a-z-]+ : ([A-Z]\w+)$", demands, re.M))
+gathered = set(re.findall(r"^  +pub [a-z_]+ : ([A-Z]\w+)$", demands, re.M))
 proved = (CRATES / "promises/proofs/Demands.antt").read_text(encoding="utf-8")
 hold(gathered, "no statement stands under the demands")
-hold(len(gathered) == len(re.findall(r"^      [a-z-]+ = ", proved, re.M)), "a statement under the demands has no proof")
+hold(len(gathered) == len(re.findall(r"^      [a-z_]+ = ", proved, re.M)), "a statement under the demands has no proof")
 for statement in sorted(statements):
     hold(statement in gathered, f"{statement} is under no demand, so nothing asks for its proof")
 for statement in gathered:

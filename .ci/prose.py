@@ -1,12 +1,12 @@
 #!/usr/bin/env python3
 """Holds numbers and listings in prose to the definitions and to what the programs print.
 
-    prose.py                    the programs are those that rt and host/Makefile build
+    prose.py                    the programs are those that `rt ci` or `rt run` and host/Makefile build
     prose.py --with PROGRAM     the independent program stands in for `list`, `hear`, `salvager`, `excite` and `sheet`, but where they are given an
                                 argument; what the command `oatlantern` prints, and what is asked of a book, is passed over
 
 Listings. In a code block of a page, and in an example of a manual page, a line `$ COMMAND` is followed by what it prints. Each command is
-run and compared (of `rt check NAMES && COMMAND` and `make -C host && COMMAND` the second), but those of NOT_RUN, which show nothing, and those of a manual page that
+run and compared (of `make -C host && COMMAND` the second), but those of NOT_RUN, which show nothing, and those of a manual page that
 show nothing (`rm` is run all the same: a page may begin a book anew). Standard error is shown too; a command may write below target/ and nowhere else. A line that looks like a listing's or a
 change's and follows no command is a fault, and so is one in a sentence that nothing prints. A manual page's recordings are those of samples/.
 Tables. The handbook's correction numbers, refusals and delays, and the tables of samples/README.md, are compared with the specs, the
@@ -29,8 +29,8 @@ MANUAL = ["host/*.1", "host/*.3"]
 NAMING = ["README.md", "docs/HANDBOOK.md", "docs/CHANGING.md", "samples/README.md"]
 SHOWING = {"README.md": ["list", "salvage", "tally", "decode"], "docs/HANDBOOK.md": ["list", "hear", "salvage", "excite", "sheet", "tally"],
            "samples/README.md": ["list", "salvage"], "host/oatlantern.1": ["list", "hear", "salvage", "excite", "decode", "tally"]}
-NOT_RUN = re.compile(r"rt |\.ci/run|cargo |make |cc |git |samples/make\.py |\.ci/prose\.py|python3 ")
-RUN = re.compile(r"(\./run target/\S+|oatlantern \w+|rm -f target/[\w-]+\.book|sqlite3 -readonly target/[\w-]+\.book|head|sed -n|cut|tail|od|wc|cmp|diff|printf|echo)(\b|$)")
+NOT_RUN = re.compile(r"rt |\(cd crates/\w+ && rt |\.ci/run|cargo |make |cc |git |samples/make\.py |\.ci/prose\.py|python3 ")
+RUN = re.compile(r"(\./run (?:target/host|crates/\w+/out)/\S+|oatlantern \w+|rm -f target/[\w-]+\.book|sqlite3 -readonly target/[\w-]+\.book|head|sed -n|cut|tail|od|wc|cmp|diff|printf|echo)(\b|$)")
 TALLIED = (r"held \d+|total \d+|entries \d+|book \d+|(?:entered|already held|held|\d+) unit \d+ recording \d+ count \d+|not held unit \d+ recording \d+"
            r"|unit \d+ (?:recordings \d+ )?total \d+|entries \d+ total \d+|merged \d+ entered, \d+ already held, \d+ refused")
 CHANGE = r"dropped \d+ bytes from \d+|kept \d+ frames|end written at \d+"
@@ -74,8 +74,8 @@ def names_in(path, name):
 PLACES = names_in("crates/frame/specs/Places.antt", "places")
 GUARDED = names_in("crates/frame/specs/Parity.antt", "guarded")
 # of each case of a correction its letter, and what it adds to the C reader's result
-LETTERS = dict(re.findall(r'^letterOf \(?(\w+)[^=]*= ascii "(.)"$', read("crates/lines/specs/Lines.antt"), re.M))
-KINDS = dict(re.findall(r"^kindOf \(?(\w+)[^=]*= (\d+)$", read("crates/gateway/specs/Results.antt"), re.M))
+LETTERS = dict(re.findall(r'^letter_of \(?(\w+)[^=]*= ascii "(.)"$', read("crates/lines/specs/Lines.antt"), re.M))
+KINDS = dict(re.findall(r"^kind_of \(?(\w+)[^=]*= (\d+)$", read("crates/gateway/specs/Results.antt"), re.M))
 NUMBER = {PLACES.index(name) + 1: n for n, name in enumerate(GUARDED, 1)}
 LONGEST = int(re.search(r"^longest = (\d+)$", read("crates/blocks/specs/Walk.antt"), re.M)[1])
 
@@ -90,10 +90,10 @@ def cases_of(word):
     return found
 
 
-# the refusals of salvaging have their numbers under the name numberOf
-REFUSALS = {case: {int(n) for n in said if n.isdigit() and int(n)} for case, said in cases_of("(?:[rR]efusal|numberOf)").items()}
+# the refusals of salvaging have their numbers under the name number_of
+REFUSALS = {case: {int(n) for n in said if n.isdigit() and int(n)} for case, said in cases_of("(?:refusal|number_of)").items()}
 REFUSALS = {case: numbers for case, numbers in REFUSALS.items() if numbers}
-TELLS = cases_of("(?:[tT]ells|[tT]old)")
+TELLS = cases_of("(?:tells|told)")
 
 
 # ---- Listings ----
@@ -126,7 +126,7 @@ def built(command):
 
 def stood_in(command):
     """The same with the independent program, where there is one, for those that it stands in for."""
-    return re.sub(r"\./run target/(?:bin/|host/oatlantern )(list|hear|salvage|excite|sheet)r?\b", rf"{independent} \1", command) if independent else command
+    return re.sub(r"\./run (?:target/host/oatlantern |crates/\w+/out/)(list|hear|salvage|excite|sheet)r?\b", rf"{independent} \1", command) if independent else command
 
 
 def said_by(command):
@@ -149,7 +149,7 @@ for path in pages(PAGES) + pages(MANUAL):
         for n, line in block[:asked[0] if asked else len(block)]:
             hold(not LISTING.fullmatch(line.strip()), path, n, "a listing that follows no command")
         for i, j in zip(asked, asked[1:] + [len(block)]):
-            n, command = block[i][0], re.sub(r"^(rt check [\w ]+|make -C host) && ", "", block[i][1][2:])
+            n, command = block[i][0], re.sub(r"^make -C host && ", "", block[i][1][2:])
             shown = [line for _, line in block[i + 1:j]]
             while shown and not shown[-1].strip():
                 shown.pop()
@@ -162,8 +162,8 @@ for path in pages(PAGES) + pages(MANUAL):
             written = [file for file in re.findall(r">\s*([^\s&|]+)", command) if not re.match(r"target/[\w-]+\.rec$|/dev/null$", file)]
             hold(not written, path, n, f"`{command}` writes {written}")
             run = built(file_of(path, command))
-            showing.update((path, program) for program in re.findall(r"\./run target/(?:bin/|host/oatlantern )([\w-]+)", run))
-            if written or independent and re.search(r"target/host/|target/[\w-]+\.(?:book|rec)|target/bin/(list|hear|excite|salvager?) +[^<>|\s]", run):
+            showing.update((path, program) for program in re.findall(r"\./run (?:target/host/oatlantern |crates/\w+/out/)([\w-]+)", run))
+            if written or independent and re.search(r"target/host/|target/[\w-]+\.(?:book|rec)|crates/\w+/out/(list|hear|excite|salvager?) +[^<>|\s]", run):
                 # the independent program's words are not the command's, but what it lists is
                 if not written and re.search(r"\| \./run target/host/oatlantern (list|hear|excite)$", run):
                     printed.update(said_by(run))

@@ -4,7 +4,7 @@
     reached.py
 
 The programs are the crates with a `main`, which `rt ci` runs and holds to their files `stdout`, and the C programs below, which call the
-functions of the archive. From them the calls are followed through the sources. The last line is `N cases, M faults`; the exit is 1 where a
+functions of the archive. What is in the archive stands in the parts that `gateway_c` and its like are, and they call the libraries. From them the calls are followed through the sources. The last line is `N cases, M faults`; the exit is 1 where a
 public function is not reached.
 """
 
@@ -18,6 +18,7 @@ C_PROGRAMS = {
     "host/frames.c": "host/test.sh",
     "host/recordings.c": "host/test.sh",
     "host/tally.c": "host/test-book.py",
+    "host/test-header.c": "host/test.sh",
     "outside/boundary/answers.c": "outside/boundary/compare.sh",
     "outside/boundary/sanitize.c": "outside/boundary/sanitize.sh",
 }

@@ -14,22 +14,31 @@ ROOT = Path(__file__).resolve().parent.parent
 CRATES = ROOT / "crates"
 MASKED = re.compile(r'//[^\n]*|b?"(?:\\.|[^"\\])*"|b?\'(?:\\(?:x[0-9a-fA-F]{2}|.)|[^\'\\\n])\'', re.S)
 HEADS = re.compile(r"(?P<public>\bpub\s+)?(?:extern\s+\"\s*\"\s+)?\b(?P<kind>fn|const|impl|mod|struct|enum|use|extern)\b")
-CLAUSES = ("requires", "ensures")
+CLAUSE = re.compile(r"\b(?:requires|ensures)(?:\s+\w+)?\s*$")
 C_LIBRARIES = ("io",)
-READERS = (["std", "io", "Read"],)
+READER = re.compile(r"\bRead\b")
 CALL = re.compile(r"(?<![\w.])(?P<path>(?:\w+\s*::\s*)*)(?P<name>\w+)\s*\(")
 METHOD = re.compile(r"\.\s*(?P<name>[a-z_]\w*)\s*\(")
 CONSTANT = re.compile(r"(?<![\w.])(?P<path>(?:\w+\s*::\s*)*)(?P<name>[A-Z][A-Z0-9_]*)\b(?!\s*(?:::|\())")
 
 
+def lines():
+    """The lines of crates.txt: a crate, the words after its name, and what it uses."""
+    for line in (ROOT / "crates.txt").read_text(encoding="utf-8").splitlines():
+        words, colon, uses = line.split("#")[0].partition(":")
+        if colon:
+            name, *more = words.split()
+            yield name, more, uses.split()
+
+
 def depends():
     """The crates as crates.txt lists them, each with what it uses."""
-    found = {}
-    for line in (ROOT / "crates.txt").read_text(encoding="utf-8").splitlines():
-        name, colon, uses = line.split("#")[0].partition(":")
-        if colon:
-            found[name.strip()] = uses.split()
-    return found
+    return {name: uses for name, _, uses in lines()}
+
+
+def archived():
+    """The static libraries: the parts of the archive for C."""
+    return [name for name, more, _ in lines() if "staticlib" in more]
 
 
 def below(crate, listed):
@@ -64,7 +73,8 @@ def closing(text, at, pair="{}"):
 
 @dataclass(eq=False)
 class Item:
-    """A function or a constant: where it stands, and its text from its first word to its end."""
+    """A function or a constant: where it stands, its text from its first word to its end, and whether its answer is the outside's to give:
+    it calls the kit's C libraries or is lent a reader."""
     crate: str
     module: tuple
     owner: str
@@ -78,7 +88,7 @@ class Item:
     body: str
     uses: set = field(default_factory=set)
     unclear: set = field(default_factory=set)
-    calls_c: bool = False
+    asks_outside: bool = False
 
     def __str__(self):
         return "::".join(part for part in (self.crate, *self.module, self.owner, self.name) if part)
@@ -149,7 +159,7 @@ class File:
         place = closing(text, text.index("(", at), "()")
         brace = text.index("{", place)
         head = text[start:brace]
-        while (word := re.search(r"(\w+)\s*$", text[place:brace])) and word[1] in CLAUSES:
+        while CLAUSE.search(text[place:brace]):
             place = closing(text, brace)
             brace = text.index("{", place)
         stop = closing(text, brace)
@@ -233,13 +243,11 @@ class Sources:
         return next((found for found in self.items_by_name[(*place, name)] if found.kind == kind), None) if place else None
 
     def connect(self, item):
-        # what takes a reader of std's answers what the system gives, as what calls C does
-        brought = self.files[item.crate, item.module].brought
-        item.calls_c = any(brought.get(bound) in READERS for bound in re.findall(r"\bimpl\s+(\w+)", item.head))
+        item.asks_outside = bool(READER.search(item.head))
         for call in CALL.finditer(item.body):
             segments = [part.strip() for part in call["path"].split("::") if part.strip()]
             brought = self.files[item.crate, item.module].brought.get(segments[0] if segments else call["name"], segments)
-            item.calls_c = item.calls_c or brought[:1] in [[name] for name in C_LIBRARIES]
+            item.asks_outside = item.asks_outside or brought[:1] in [[name] for name in C_LIBRARIES]
             if found := self.find(item, segments, call["name"], "fn"):
                 item.uses.add(found)
             elif segments and call["name"][0].islower() and self.ours(item, segments):

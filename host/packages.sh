@@ -1,6 +1,6 @@
 #!/bin/sh
-# Installs from Debian's packages what is missing to build the host programs: on a machine that is not x86-64 the cross compilers,
-# and everywhere pkg-config and the static SQLite for x86-64. Silent where nothing is missing; where it cannot install it says in
+# Installs from Debian's packages what is missing to build the host programs: on a machine that is not x86-64 the cross compilers
+# and the emulator, and everywhere pkg-config and the static SQLite for x86-64. Silent where nothing is missing; where it cannot install it says in
 # one line what is to be installed, and ends with 1.
 set -eu
 cd "$(dirname "$0")"
@@ -30,6 +30,7 @@ missing() {
         sqlite_package=libsqlite3-dev:amd64
         there "${CC%% *}" || packages="$packages gcc-x86-64-linux-gnu"
         there "${CXX%% *}" || packages="$packages g++-x86-64-linux-gnu"
+        there qemu-x86_64 || packages="$packages qemu-user"
         ;;
     esac
     there pkg-config || packages="$packages pkg-config"

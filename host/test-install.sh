@@ -66,6 +66,10 @@ for n in $names; do
 done
 says "other files in bin" 7 sh -c 'ls "$0" | wc -l' "$tmp/usr/bin"
 says "the members of the archive" "$(echo "$crates" | tr ' ' '\n' | sed 's/$/.o/')" "$AR" t "$tmp/usr/lib/liboatlantern.a"
+# nothing but the functions for C can be seen from outside
+exported=$(cd .. && for c in $crates; do sed -n 's/^pub extern "C" fn \([a-z_]*\)(.*/\1/p' "crates/$c/src/lib.rt"; done | LC_ALL=C sort)
+says "the names in the archive" "$exported" sh -c '"$0" -g --defined-only "$1" | sed -n "s/^[0-9a-f]* [A-Za-z] //p" | LC_ALL=C sort' \
+    "$NM" "$tmp/usr/lib/liboatlantern.a"
 
 # what is installed anew takes the place of what was there, also of a program under an old name
 rm "$tmp/usr/bin/oatlantern-list"
@@ -266,28 +270,25 @@ says "uninstall leaves files" "" find "$tmp/stage" ! -type d
 
 copy=$tmp/copy
 mkdir -p "$copy/target"
-(cd "$root" && cp -a crates crates.txt host include run README.md CHANGELOG.md "$copy")
-(cd "$root/target" && cp -a rlib stamp host "$copy/target")
+(cd "$root" && tar -c --exclude='crates/*/out' crates crates.txt host include run README.md CHANGELOG.md target/host) | tar -x -C "$copy"
 
-# one of the archive's crates is not proved, for it has a function that no one proves, whose sum may be too large: nothing is
-# built, and nothing installed
+# one of the crates that the archive calls is not proved, for it has a function that no one proves, whose sum may be too large:
+# nothing is built, and nothing installed
 rm "$copy/target/host/oatlantern"
 for crate in player gateway; do
     cp "$copy/crates/$crate/src/lib.rt" "$tmp/lib.rt"
     echo 'fn unproved(a: u8) -> u8 { a + 1 }' >> "$copy/crates/$crate/src/lib.rt"
     fails "$crate is not proved, and is installed" make -C "$copy/host" install PREFIX="$copy/installed"
-    holds "rt's words are not shown" grep -q "$crate NOT PROVED" "$tmp/said"
+    holds "rt's words are not shown" grep -q "the library $crate did not build" "$tmp/said"
     fails "the command is built though $crate is not proved" test -e "$copy/target/host/oatlantern"
     fails "something is installed though $crate is not proved" test -e "$copy/installed"
     cp "$tmp/lib.rt" "$copy/crates/$crate/src/lib.rt"
-    cp -a "$root/target/stamp/$crate" "$copy/target/stamp/$crate"
+    cp -p "$root/target/host/${crate}_c.o" "$root/target/host/${crate}_c.made" "$copy/target/host"
 done
 
-# a stamp that is newer than the copies: the member and the archive are made anew, whatever stands there
-echo stale > "$copy/target/host/player.o"
+# whatever stands there in the place of a member and of the archive, they are made anew
+echo stale > "$copy/target/host/player_c.o"
 echo stale > "$copy/target/host/liboatlantern.a"
-touch -d '1 minute ago' "$copy/target/host/player.o" "$copy/target/host/liboatlantern.a"
-touch "$copy/target/stamp/player"
 holds "the archive is made anew" make -C "$copy/host" archive
 holds "the archive is a stale one" cmp ../target/host/liboatlantern.a "$copy/target/host/liboatlantern.a"
 
@@ -326,13 +327,13 @@ readme() {
 readme || fail "the README's lines"
 checks=$((checks + 1))
 
-# The same as on another machine: uname says so, its own compilers make nothing that links with the archive, and the kit's
-# emulator is a script that starts the loader which it is given. rt itself is this machine's.
+# The same as on another machine: uname says so, its own compilers make nothing that links with the archive, and the emulator
+# is a script that starts the loader which it is given. rt itself is this machine's.
 if [ "$(uname -m)" = x86_64 ]; then
     here=$PATH
     kit=$(dirname "$(dirname "$(readlink -f "$(command -v rt)")")")
-    mkdir -p "$tmp/other/bin" "$tmp/other/kit/on/aarch64/toolchain/bin"
-    ln -s "$kit/on/x86_64/toolchain/lib" "$tmp/other/kit/on/aarch64/toolchain/lib"
+    mkdir -p "$tmp/other/bin"
+    ln -s "$kit/toolchain" "$tmp/other/toolchain"
     script() { # FILE LINES
         printf '#!/bin/sh\n%s\n' "$2" > "$tmp/other/$1"
         chmod +x "$tmp/other/$1"
@@ -343,12 +344,12 @@ if [ "$(uname -m)" = x86_64 ]; then
         native=$(command -v "${c#*:}")
         script "bin/x86_64-linux-gnu-${c%:*}" "echo ${c%:*} \"\$@\" >> '$tmp/crossed'; PATH='$here' exec '$native' \"\$@\""
     done
-    script bin/rt "unset RATTLE_HOME; PATH='$here' exec rt \"\$@\""
-    script kit/on/aarch64/toolchain/bin/qemu-x86_64 "echo emulated >> '$tmp/emulated'; exec \"\$@\""
+    script bin/rt "PATH='$here' exec rt \"\$@\""
+    script bin/qemu-x86_64 "echo emulated >> '$tmp/emulated'; exec \"\$@\""
     (
         unset CC CXX AR SQLITE
-        PATH="$tmp/other/bin:$PATH" RATTLE_HOME="$tmp/other/kit"
-        export PATH RATTLE_HOME
+        PATH="$tmp/other/bin:$PATH"
+        export PATH
         readme
     ) || fail "the README's lines on another machine"
     checks=$((checks + 1))

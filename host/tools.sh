@@ -1,18 +1,18 @@
 # For the Makefile and the scripts that build C programs on the archive, which is for x86-64: the compilers, what makes an
 # archive, the static SQLite, the sanitizers and what runs a program. On another machine they are Debian's cross compilers
-# (gcc-x86-64-linux-gnu, g++-x86-64-linux-gnu), its SQLite for x86-64 (libsqlite3-dev:amd64) and the kit's emulator, under which
-# the address sanitizer cannot run; the undefined-behaviour sanitizer stays. CC, CXX, AR and SQLITE may be set.
+# (gcc-x86-64-linux-gnu, g++-x86-64-linux-gnu), its SQLite for x86-64 (libsqlite3-dev:amd64) and its emulator (qemu-user), under
+# which the address sanitizer cannot run; the undefined-behaviour sanitizer stays. CC, CXX, AR, NM and SQLITE may be set.
 root=$(pwd)
 while [ ! -f "$root/crates.txt" ]; do root=$(dirname "$root"); done
 run=$root/run
 sqlite='-l:libsqlite3.a -lpthread -lm -ldl'
 case $(uname -m) in
 x86_64 | amd64)
-    CC=${CC:-cc} CXX=${CXX:-c++} AR=${AR:-ar} SQLITE=${SQLITE:-$sqlite}
+    CC=${CC:-cc} CXX=${CXX:-c++} AR=${AR:-ar} NM=${NM:-nm} SQLITE=${SQLITE:-$sqlite}
     sanitizers='-fsanitize=address,undefined -fno-sanitize-recover=all'
     ;;
 *)
-    CC=${CC:-x86_64-linux-gnu-gcc} CXX=${CXX:-x86_64-linux-gnu-g++} AR=${AR:-x86_64-linux-gnu-ar}
+    CC=${CC:-x86_64-linux-gnu-gcc} CXX=${CXX:-x86_64-linux-gnu-g++} AR=${AR:-x86_64-linux-gnu-ar} NM=${NM:-x86_64-linux-gnu-nm}
     SQLITE=${SQLITE:--L/usr/lib/x86_64-linux-gnu $sqlite}
     sanitizers='-fsanitize=undefined -fsanitize-undefined-trap-on-error'
     ;;

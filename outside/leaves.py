@@ -4,7 +4,7 @@
     leaves.py OUTSIDE LEAVES           compares; the last line says how many cases were compared
     leaves.py --time OUTSIDE LEAVES    times each kind of call too, in ns a call, on a machine that runs LEAVES itself
 
-LEAVES is a command, one word of the shell's (as './run target/bin/leaves'). A time is the difference between many rounds over the same
+LEAVES is a command, one word of the shell's (as './run crates/leaves/out/leaves'). A time is the difference between many rounds over the same
 cases and few, best of several, so that neither starting nor reading counts; each side takes its cases apart and sums up its answers.
 """
 

@@ -4,7 +4,7 @@
     lent.py OUTSIDE PROGRAM
 
 OUTSIDE is the independent program, which makes the recordings and says what is to be printed of each case. PROGRAM is a command, one word of
-the shell's (as './run target/bin/lent'). It has to print the same, say nothing on standard error and end with status 0. Buffers of the right
+the shell's (as './run crates/lent/out/lent'). It has to print the same, say nothing on standard error and end with status 0. Buffers of the right
 lengths are lent with some of the edges, each cause of a refusal among them, with those made for salvaging, the longest sound recordings, samples,
 recordings that are too long, none at all and inputs of less than two bytes; and buffers of other lengths with some of these. The last line says
 how many cases were compared.

@@ -5,7 +5,7 @@ and damaged.
     listings.py OUTSIDE COUNT SEED LIST [HEAR [SALVAGE [EXCITE]]]
 
 OUTSIDE is the independent program, which writes the recordings with what is to be printed of each. LIST, HEAR, SALVAGE and EXCITE are
-commands, each one word of the shell's (as './run target/bin/list'). Each recording is read from a file, and some small ones come through a pipe in
+commands, each one word of the shell's (as './run crates/list/out/list'). Each recording is read from a file, and some small ones come through a pipe in
 pieces. A program has to print what is expected, say on standard error the changes, if it is SALVAGE, or nothing, and end with status 0.
 SALVAGE is held over cuts and uploads too. Then each is run with an argument, and on an input that cannot be read: it prints nothing and
 says one line. The last line says how many cases were compared.

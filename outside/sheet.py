@@ -4,7 +4,7 @@
     sheet.py OUTSIDE PROGRAM
 
 OUTSIDE is the independent program, which makes the histories and says what is to be printed of each. PROGRAM is a command, one word of the
-shell's (as './run target/bin/sheet'). It has to print the same, say nothing on standard error and end with status 0: over the named histories
+shell's (as './run crates/sheet/out/sheet'). It has to print the same, say nothing on standard error and end with status 0: over the named histories
 and generated ones, over the stored calls, and where the calls come in pieces. A case is a call that has a line. The last line says how many
 were compared.
 """

@@ -7,7 +7,7 @@ TREE is a checkout, this one if not said, so that one commit can be held beside 
 and built into an archive for C, by a crate that is made for it alone (exports.txt); `size` tells the archive's bytes.
 Then a program in C (calls.c) calls `meanings::meaning` of the archive, and what stands in for it in plain C (plain.c):
 once with the twelfths of a rank in a table, once worked out. On x86-64 a figure is nanoseconds a call, the best of
-several; on any other machine it is instructions a call, as the kit's emulator counts them. What calling alone takes is
+several; on any other machine it is instructions a call, as the emulator counts them. What calling alone takes is
 taken off: it is measured with a function that does nothing.
 
 A figure is the difference between many rounds and few over the same cases: every byte once in subframe 1 and once in
@@ -65,11 +65,11 @@ def archived(tree, folder):
                 shutil.copytree(crate / part, folder / "crates" / crate.name / part)
     (folder / "crates/belt/src").mkdir(parents=True)
     shutil.copy(HERE / "exports.txt", folder / "crates/belt/src/lib.rt")
-    (folder / "crates.txt").write_text(f"{(tree / 'crates.txt').read_text(encoding='utf-8')}\nbelt: {USES}\n", encoding="utf-8")
-    done = subprocess.run(["rt", "staticlib", "belt"], cwd=folder, capture_output=True, text=True, check=False)
+    (folder / "crates.txt").write_text(f"{(tree / 'crates.txt').read_text(encoding='utf-8')}\nbelt staticlib: {USES}\n", encoding="utf-8")
+    done = subprocess.run(["rt", "lib"], cwd=folder / "crates/belt", capture_output=True, text=True, check=False)
     if done.returncode:
         sys.exit(f"the archive is not built:\n{done.stdout}{done.stderr}")
-    return folder / "target/staticlib/libbelt.a"
+    return folder / "crates/belt/out/libbelt.a"
 
 
 class Calls:

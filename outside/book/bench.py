@@ -3,8 +3,8 @@
 
     outside/book/bench.py [SHEET]
 
-SHEET is the program that makes calls on a tally book, target/bin/sheet if not said. On x86-64 a figure is nanoseconds a
-call, the best of several. On any other machine it is instructions a call: the kit's emulator (`run`) executes one at a
+SHEET is the program that makes calls on a tally book, crates/sheet/out/sheet if not said. On x86-64 a figure is nanoseconds a
+call, the best of several. On any other machine it is instructions a call: the emulator (`run`) executes one at a
 time and logs it, and the lines of the log are counted. That depends on nothing else that runs, and says nothing of
 caches and branches. CC and CXX may be set.
 
@@ -212,7 +212,7 @@ def growth(found, columns):
             print(f"{heading}: {kind} in the entries (at {between} off the line by at most {most:.1%}): {which}")
 
 
-def main(sheet=ROOT / "target/bin/sheet"):
+def main(sheet=ROOT / "crates/sheet/out/sheet"):
     if not Path(sheet).is_file():
         sys.exit(f"{sheet} is not there")
     with tempfile.TemporaryDirectory() as folder:

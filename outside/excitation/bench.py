@@ -3,8 +3,8 @@
 
     outside/excitation/bench.py [SUBFRAMES]
 
-SUBFRAMES is the program that makes the excitation of single subframes, target/bin/subframes if not said. On x86-64 a
-figure is nanoseconds a subframe, the best of several. On any other machine it is instructions a subframe: the kit's
+SUBFRAMES is the program that makes the excitation of single subframes, crates/subframes/out/subframes if not said. On x86-64 a
+figure is nanoseconds a subframe, the best of several. On any other machine it is instructions a subframe: the
 emulator (`run`) executes one at a time and logs it, and the lines of the log are counted. That depends on nothing else
 that runs, and says nothing of caches and branches. CC may be set. The independent program has to be built
 (outside/target/release/outside): the tables of the loop in C and the lines that are right come from it.
@@ -132,7 +132,7 @@ class Programs:
         return {name: (best[name, many[name]] - best[name, FEW]) / (many[name] - FEW) for name in self.paths}
 
 
-def main(subframes=ROOT / "target/bin/subframes"):
+def main(subframes=ROOT / "crates/subframes/out/subframes"):
     for needed in (subframes, OUTSIDE):
         if not Path(needed).is_file():
             sys.exit(f"{needed} is not there")

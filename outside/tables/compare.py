@@ -45,11 +45,11 @@ RATTLE = [
 ]
 ANTT = [
     ("crates/record/specs/Fields.antt", "widths", "widths"),
-    ("crates/gains/specs/Tables.antt", "cgTable", "cg"),
-    ("crates/gains/specs/Tables.antt", "pgTable", "pg"),
+    ("crates/gains/specs/Tables.antt", "cg_table", "cg"),
+    ("crates/gains/specs/Tables.antt", "pg_table", "pg"),
     ("crates/delays/specs/Table.antt", "delays", "codes.twelfths"),
     ("crates/delays/specs/Table.antt", "bytes", "codes.bytes"),
-    ("crates/lsp/specs/Table.antt", "hzTable", "lsp"),
+    ("crates/lsp/specs/Table.antt", "hz_table", "lsp"),
     ("crates/codebook/specs/Book.antt", "book", "elements"),
     ("crates/frame/specs/Places.antt", "places", "places.entries"),
     ("crates/frame/specs/Parity.antt", "guarded", "guarded.entries"),

@@ -11,8 +11,7 @@ use frame::{Correction, Verdict, Written};
 
 // Reads a frame into a record: 16 times the order mark plus the correction number, and 256 more for a parity hit, 512 for a data hit;
 // or a refusal.
-#[unsafe(no_mangle)]
-pub extern "C" fn oatlantern_read_frame(frame: &[u8], out: &mut [u8]) -> i32
+pub fn oatlantern_read_frame(frame: &[u8], out: &mut [u8]) -> i32
     ensures value { result ≡ read_result frame.now (length out.old) }
     ensures out_after { out.new ≡ record_left frame.now out.old }
 {
@@ -44,8 +43,7 @@ fn kind_of(correction: Correction) -> usize
 }
 
 // Writes a record's frame: 0, or a refusal.
-#[unsafe(no_mangle)]
-pub extern "C" fn oatlantern_write_frame(record: &[u8], frame: &mut [u8]) -> i32
+pub fn oatlantern_write_frame(record: &[u8], frame: &mut [u8]) -> i32
     ensures value { result ≡ write_result «record».now (length frame.old) }
     ensures frame_after { frame.new ≡ frame_left_by «record».now frame.old }
 {

@@ -10,8 +10,7 @@ use values::{LastSy, State, Values};
 
 // Hears a record after a state: its order mark, with the values and the state after it; or minus a refusal, which leaves all but the
 // state after 6.
-#[unsafe(no_mangle)]
-pub extern "C" fn oatlantern_hear_record(
+pub fn oatlantern_hear_record(
     record: &[u8],
     sync: &mut [u16; 3],
     hz: &mut [u16; 10],
@@ -127,8 +126,7 @@ fn lay(
 }
 
 // Where voice block k of a recording stands: its first byte and the one after its last, or 0 and 0.
-#[unsafe(no_mangle)]
-pub extern "C" fn oatlantern_voice_block(recording: &[u8], k: usize, span: &mut [usize; 2])
+pub fn oatlantern_voice_block(recording: &[u8], k: usize, span: &mut [usize; 2])
     ensures { span.new ≡ (span_of recording.now k).from ∷ (span_of recording.now k).to ∷ [] }
 {
     let found = voices::voice_span(recording, k);

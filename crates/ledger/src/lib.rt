@@ -11,8 +11,7 @@ ghost use Rattle.ledger.specs.Results.{entry_with, enter_result, entering_result
 use tally::{Entering, Entry, Holding, Tallied};
 
 // Enters an entry: 0 entered, 1 already held, or minus a refusal.
-#[unsafe(no_mangle)]
-pub extern "C" fn oatlantern_tally_enter(
+pub fn oatlantern_tally_enter(
     book: &mut [u32; tally::WORDS],
     unit: u32,
     number: u32,
@@ -44,8 +43,7 @@ fn result(tallied: Tallied) -> i32
 }
 
 // Enters a recording with the count that was spoken in it, and tells what its verdict tells.
-#[unsafe(no_mangle)]
-pub extern "C" fn oatlantern_tally_enter_recording(
+pub fn oatlantern_tally_enter_recording(
     book: &mut [u32; tally::WORDS],
     recording: &[u8],
     count: u32,
@@ -64,8 +62,7 @@ pub extern "C" fn oatlantern_tally_enter_recording(
 }
 
 // Whether a key is held: 1 and the count, or 0.
-#[unsafe(no_mangle)]
-pub extern "C" fn oatlantern_tally_held(
+pub fn oatlantern_tally_held(
     book: &[u32; tally::WORDS],
     unit: u32,
     number: u32,
@@ -84,16 +81,14 @@ pub extern "C" fn oatlantern_tally_held(
 }
 
 // The total of a unit.
-#[unsafe(no_mangle)]
-pub extern "C" fn oatlantern_tally_total(book: &[u32; tally::WORDS], unit: u32) -> u64
+pub fn oatlantern_tally_total(book: &[u32; tally::WORDS], unit: u32) -> u64
     ensures { result ≡ total_in (entries_of book.now) unit }
 {
     tally::total(book, unit)
 }
 
 // How many entries a book holds.
-#[unsafe(no_mangle)]
-pub extern "C" fn oatlantern_tally_entries(book: &[u32; tally::WORDS]) -> u32
+pub fn oatlantern_tally_entries(book: &[u32; tally::WORDS]) -> u32
     ensures { result ≡ entries_in book.now }
 {
     tally::entries(book)

@@ -9,8 +9,7 @@ use listing::Listed;
 
 // Lists any bytes as a recording, and tells where the text ends and what the verdict tells: 0, or minus a refusal. A refused recording
 // is listed all the same; a text buffer of the wrong length is refused, and nothing is written.
-#[unsafe(no_mangle)]
-pub extern "C" fn oatlantern_list(
+pub fn oatlantern_list(
     recording: &[u8],
     text: &mut [u8],
     ending: &mut [usize; 1],

@@ -9,12 +9,7 @@ use salvage::Salvaged;
 
 // Salvages any bytes into a buffer, and tells what was changed: 0 for a sound recording, 1 for a mended one, or minus a refusal, which
 // writes nothing.
-#[unsafe(no_mangle)]
-pub extern "C" fn oatlantern_salvage(
-    recording: &[u8],
-    out: &mut [u8],
-    changes: &mut [usize; 5],
-) -> i32
+pub fn oatlantern_salvage(recording: &[u8], out: &mut [u8], changes: &mut [usize; 5]) -> i32
     ensures value { result ≡ salvage_result (salvage_of recording.now (length out.old)) }
     ensures out_after { out.new ≡ buffer_of recording.now out.old }
     ensures changes_after { changes.new ≡ changes_left (salvage_of recording.now (length out.old)) (length recording.now) changes.old }

@@ -9,8 +9,7 @@ ghost use Rattle.excitation.specs.Outcome.{refusal_of, excited_of, excitation_le
 use excitation::Register;
 
 // Writes the excitation into a buffer of sixty and moves the lent register on: 0, or minus a refusal, which leaves both.
-#[unsafe(no_mangle)]
-pub extern "C" fn oatlantern_excite(
+pub fn oatlantern_excite(
     past: &mut [i32; 147],
     delay: u32,
     pg: u16,

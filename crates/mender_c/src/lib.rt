@@ -1,0 +1,22 @@
+// The archive's part of `mender`: salvaging under the name that include/oatlantern.h declares.
+// Its function only calls the one of its name there.
+#![tactic(auto)]
+
+ghost use Rattle.std.specs.Prelude.{◌≡◌, length};
+ghost use Rattle.salvage.specs.Salvaging.{salvage_of, buffer_of};
+ghost use Rattle.mender.specs.Results.{salvage_result, changes_left};
+
+// Salvages any bytes into a buffer, and tells what was changed: 0 for a sound recording, 1 for a mended one, or minus a refusal, which
+// writes nothing.
+#[unsafe(no_mangle)]
+pub extern "C" fn oatlantern_salvage(
+    recording: &[u8],
+    out: &mut [u8],
+    changes: &mut [usize; 5],
+) -> i32
+    ensures value { result ≡ salvage_result (salvage_of recording.now (length out.old)) }
+    ensures out_after { out.new ≡ buffer_of recording.now out.old }
+    ensures changes_after { changes.new ≡ changes_left (salvage_of recording.now (length out.old)) (length recording.now) changes.old }
+{
+    mender::oatlantern_salvage(recording, out, changes)
+}
