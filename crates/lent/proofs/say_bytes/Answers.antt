@@ -5,4 +5,4 @@ use lib.Seq.{length-take-le}
 use Rattle.lent.proofs.say_bytes.Goals as goal
 
 pub slice_bounds-write_all-end : goal.slice_bounds-write_all-end
-slice_bounds-write_all-end c = sym (length-take-le _ _ (omega (arith, c.least.ensures)))
+slice_bounds-write_all-end c = sym (length-take-le _ _ (omega (arith, c.least-kept.ensures)))

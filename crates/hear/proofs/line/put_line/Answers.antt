@@ -8,5 +8,5 @@ use Rattle.hear.proofs.line.put_line.Goals as goal
 
 pub slice_bounds-write_all-end-2 : goal.slice_bounds-write_all-end-2
 slice_bounds-write_all-end-2 c =
-    let put = c.put in let e = ap length put.ensures.1 ∙ length_laid _ _ _ in
-    simp length-take (omega (arith, e, put.ensures.0))
+    let put = c.put-next in let e = ap length put.ensures.out_after ∙ length_laid _ _ _ in
+    simp length-take (omega (arith, e, put.ensures.value))
