@@ -67,7 +67,7 @@ fn too_large(indices: [u16; 10]) -> usize
 
 // The ten indices in Hz, from the table lent, where each fits its bits.
 fn looked_up(table: &[u16; 160], indices: [u16; 10]) -> [u16; 10]
-    requires t { T (as_printed table.now) }
+    requires printed { T (as_printed table.now) }
     requires indices_value { too_large_field indices ≡ 0 }
     ensures { result ≡ tabulate (hz_at indices) 10 }
 {

@@ -4,12 +4,6 @@ use borrow.Author.Rules.{rules}
 use Rattle.tally.proofs.Rows.{told_fits, row_held, row_none}
 use Rattle.asking.proofs.ask.Goals as goal
 
-pub row_of-row-requires : goal.row_of-row-requires
-row_of-row-requires c = search rules
-
-pub entries-end-requires : goal.entries-end-requires
-entries-end-requires c = search rules
-
 pub bounds-book-told_at : goal.bounds-book-told_at
 bounds-book-told_at c = omega (arith, told_fits _ c.entries-end.ensures)
 

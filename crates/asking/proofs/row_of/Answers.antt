@@ -5,9 +5,6 @@ use Rattle.tally.proofs.Rows.{Seeking, seeking, sought_found, sought_number, sou
 use Rattle.asking.proofs.row_of.Goals as goal
 use Rattle.asking.proofs.row_of.Goals.{then-book-number_at+else-book-unit_at, else-book-number_at}
 
-pub entries-end-requires : goal.entries-end-requires
-entries-end-requires c = search rules
-
 pub loop-row-init : goal.loop-row-init
 loop-row-init c = seeking _ _ _ _ c.entries-end.ensures
 

@@ -5,12 +5,6 @@ use Rattle.tally.proofs.Rows.{told_fits, row_held, row_none, row_after, held_sam
 use Rattle.laws.proofs.Clauses.{clauses}
 use Rattle.entering.proofs.enter.Goals as goal
 
-pub row_of-row-requires : goal.row_of-row-requires
-row_of-row-requires c = search rules
-
-pub entries-held-requires : goal.entries-held-requires
-entries-held-requires c = search rules
-
 pub bounds-book-held_at : goal.bounds-book-held_at
 bounds-book-held_at c = omega (arith, told_fits _ c.entries-held.ensures)
 

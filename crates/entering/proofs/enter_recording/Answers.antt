@@ -4,15 +4,6 @@ use Rattle.laws.proofs.Clauses.{clauses}
 use Rattle.tally.proofs.Rows.{recording_refused, recording_sound}
 use Rattle.entering.proofs.enter_recording.Goals as goal
 
-pub walk_through-walked-requires : goal.walk_through-walked-requires
-walk_through-walked-requires c = search rules
-
-pub entry_of-entry-requires : goal.entry_of-entry-requires
-entry_of-entry-requires c = search rules
-
-pub enter-requires : goal.enter-requires
-enter-requires c = search rules
-
 pub returns-in-Refused : goal.returns-in-Refused
 returns-in-Refused c =
     clauses (λ value book_after. record { value = value; book_after = book_after })

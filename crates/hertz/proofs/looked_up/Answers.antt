@@ -31,7 +31,7 @@ bounds-table-row c = omega (arith, row_small _ _ c.requires.indices_value c.loop
 
 pub loop-i-preserved : goal.loop-i-preserved
 loop-i-preserved c =
-    one_looked c.args.table.now c.args.indices c.requires.t c.requires.indices_value c.loop-i.invariant
+    one_looked c.args.table.now c.args.indices c.requires.printed c.requires.indices_value c.loop-i.invariant
     c.loop-i-test.true
 
 pub returns : goal.returns

@@ -6,14 +6,8 @@ use Rattle.tally.proofs.Rows.{Summing, summing, summed_own, summed_other, summed
 use Rattle.tally.proofs.total.Goals as goal
 use Rattle.tally.proofs.total.Goals.{then-book-owner_at, else-book-owner_at}
 
-pub entries-last-requires : goal.entries-last-requires
-entries-last-requires c = search rules
-
 pub loop-i-init : goal.loop-i-init
 loop-i-init c = summing _ _ _ c.entries-last.ensures
-
-pub wide-sum-requires : goal.wide-sum-requires
-wide-sum-requires c = search rules
 
 pub loop-i-preserved : goal.loop-i-preserved
 loop-i-preserved c =
