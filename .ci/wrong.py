@@ -15,8 +15,8 @@ what the compiled program does: it writes something else. The edit file names th
                                        ends with another status than 0
 
 The last two count only where the edit says so. For an edit without such a line a run is looked for among all there are; --find writes the
-line, and writes it anew where it is no longer true. Every run that was used is made of the right program too, which has to print what it
-should. With --since only the edits of crates are tried that changed after COMMIT. Edits of specs/ change what is promised, so they are no
+line, and writes it anew where it is no longer true. Every run that was used is made of the right program too, as `rt ci` built it, which has
+to print what it should. With --since only the edits of crates are tried that changed after COMMIT. Edits of specs/ change what is promised, so they are no
 wrong programs and are not tried.
 
 `rt try` compiles the kit's own library each time, which is most of what it takes. So what a run came to is kept on this machine, under a
@@ -190,9 +190,13 @@ class Trial:
             self.rooms.put(room)
 
     def right(self, run):
-        """The faults of the right program in a run."""
-        shown, said = self.by_room(lambda room: room.tried({}, run))
-        return [] if shown == RIGHT else [f"{' '.join(run[:2])}: {shown or 'is not compiled'}: {said.strip()[:300]}"]
+        """The faults of the right program, as it was proved and built, in a run."""
+        program, words, data, told, said = run
+        with open(data or os.devnull, "rb") as source:
+            done = subprocess.run([ROOT / "run", CRATES / program / "out" / program], stdin=source, capture_output=True, timeout=120, check=False)
+        pairs = [(done.stdout, told.read_bytes()), (done.stderr, said.read_bytes() if said else b"")]
+        found = [difference(*pair) for pair in pairs if pair[0] != pair[1]] + ([f"status {done.returncode}"] if done.returncode else [])
+        return [f"{program} {words}: {fault}" for fault in found]
 
     def looked_for(self, texts, programs):
         """A run that shows an edit, and what it shows; the best there is. Where there is none and a program is not compiled, why."""

@@ -1,9 +1,9 @@
 -- What a walk has passed: the head, and the voice blocks after it up to where it stands.
 -- Assumes nothing.
-use mathlib.Core.Path.{◌≡◌, ◌∙◌, sym, refl, ap, ap₂, subst}
+use mathlib.Core.Path.{◌≡◌, ◌∙◌, sym, refl, ap, subst}
 use mathlib.Core.Bool.{true, false}
 use mathlib.Core.List.{List, [], ◌∷◌, ◌++◌, append_assoc, append-nil}
-use Prim.Native.Nat.{ℕ, zero, suc, ◌+◌, ◌/◌, ◌<◌, ◌≤◌}
+use Prim.Native.Nat.{ℕ, zero, suc, ◌+◌, ◌/◌}
 use native.Mathlib.Omega.{arith}
 use lib.ListN.{length, drop, length-append, length-drop}
 use lib.Seq.{length-take-le}
@@ -11,8 +11,7 @@ use Rattle.blocks.specs.Blocks.{block_at, part}
 use Rattle.blocks.specs.Walk.{after_head, past_head_of, past_voice_of, step_of, at_start, walked_of}
 use Rattle.blocks.specs.Frames.{voices_from, payloads_of, cut, eighteens, frames_in}
 use Rattle.blocks.specs.Made.{block, voice_blocks}
-use Rattle.blocks.specs.declared.Heading.{Heading}
-use Rattle.blocks.specs.declared.Block.TheVariants.{Head, Voice, End}
+use Rattle.blocks.specs.declared.Block.TheVariants.{Head, Voice}
 use Rattle.blocks.specs.declared.Ending.TheVariants.{Sound}
 use Rattle.blocks.specs.declared.Walk.{Walk}
 use Rattle.blocks.specs.declared.Moved.TheVariants.{On, Done}

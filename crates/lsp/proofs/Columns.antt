@@ -10,7 +10,7 @@ use lib.Dec.{T, leb, eqb, leb→le, eqb→eq}
 use lib.ListN.{length, get_or, set}
 use lib.Pow.{pow_mono}
 use borrow.Author.Tests.{leb-false}
-use Rattle.laws.specs.Table.{both, every}
+use Rattle.laws.specs.Table.{every}
 use Rattle.laws.specs.Tabulate.{tabulate}
 use Rattle.laws.proofs.Table.{at, both_left, both_right}
 use Rattle.laws.proofs.Lowest.{NoneUpTo, none_yet, none_at_all, lowest_zero}

@@ -8,7 +8,6 @@ use native.Mathlib.Decide.{dec_lt}
 use lib.Dec.{eqb, eqb→eq}
 use lib.ListN.{length, get_or}
 use borrow.Author.Tests.{ltb-true, ltb-false, lt-ltb, le-ltb, leb-true, leb-false, le-leb, lt-leb, eq-eqb, ne_eqb}
-use Rattle.laws.specs.Table.{every}
 use Rattle.laws.specs.Tabulate.{tabulate}
 use Rattle.laws.proofs.Table.{at}
 use Rattle.laws.proofs.Tabulate.{get_d_tabulate}
@@ -18,7 +17,7 @@ use Rattle.lsp.specs.Table.{bits, hz_table, column, hz_of, lsp, over_in, too_lar
 use Rattle.lsp.specs.declared.Hertz.{Hertz}
 use Rattle.lsp.specs.declared.Verdict.TheVariants.{Within, TooLarge}
 use Rattle.lsp.specs.Order.{falls, mark_of, InOrder}
-use Rattle.lsp.specs.Average.{average_of, average_at, averages_of, subframe}
+use Rattle.lsp.specs.Average.{average_of, average_at, averages_of}
 use Rattle.lsp.proofs.Weights.{eighths, eighths_at}
 
 -- ---- the order mark

@@ -1,6 +1,5 @@
 -- `asking::ask` meets its contract, by the row of the key.
 use native.Mathlib.Omega.{arith}
-use borrow.Author.Rules.{rules}
 use Rattle.tally.proofs.Rows.{told_fits, row_held, row_none}
 use Rattle.asking.proofs.ask.Goals as goal
 

@@ -1,7 +1,5 @@
-use Prim.Native.Nat.{◌-◌}
 use native.Mathlib.Omega.{arith}
-use borrow.Author.Rules.{rules}
-use Rattle.tally.proofs.Rows.{Seeking, seeking, sought_found, sought_number, sought_unit, sought_none}
+use Rattle.tally.proofs.Rows.{seeking, sought_found, sought_number, sought_unit, sought_none}
 use Rattle.asking.proofs.row_of.Goals as goal
 use Rattle.asking.proofs.row_of.Goals.{then-book-number_at+else-book-unit_at, else-book-number_at}
 
@@ -16,8 +14,8 @@ pub loop-row-preserved : goal.loop-row-preserved
 loop-row-preserved c =
     let a = c.loop-row.invariant in
     elim c.if-book-number_at.branch [
-      then-book-number_at+else-book-unit_at w ↦ sought_unit a (omega arith) (omega arith) (λ q. omega arith)
-    | else-book-number_at w ↦ sought_number a (omega arith) (λ q. omega arith)
+      | then-book-number_at+else-book-unit_at w ↦ sought_unit a (omega arith) (omega arith) (λ q. omega arith)
+      | else-book-number_at w ↦ sought_number a (omega arith) (λ q. omega arith)
     ]
 
 pub returns : goal.returns

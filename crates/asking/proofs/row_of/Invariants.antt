@@ -1,10 +1,7 @@
 -- `asking::row_of` meets its contract. The loop's invariant: the place of the key among the rows from `row` on is its
 -- place in the book. Each turn is one of `Seeking`.
-use mathlib.Core.Logic.{⊎_elim}
 use Prim.Native.Nat.{◌-◌}
-use native.Mathlib.Omega.{arith}
-use borrow.Author.Rules.{rules}
-use Rattle.tally.proofs.Rows.{Seeking, seeking, sought_found, sought_number, sought_unit, sought_none}
+use Rattle.tally.proofs.Rows.{Seeking}
 use Rattle.asking.proofs.row_of.Given as goal
 
 abbrev pub invariant-loop-row : goal.invariant-loop-row

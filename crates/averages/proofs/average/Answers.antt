@@ -1,8 +1,6 @@
 -- `averages::average` meets its contract: each part is at most 7 times a value of sixteen bits.
-use mathlib.Core.Path.{refl}
-use Prim.Native.Nat.{ℕ, ◌-◌, ◌*◌, ◌≤◌}
+use Prim.Native.Nat.{◌-◌, ◌*◌, ◌≤◌}
 use native.Mathlib.Omega.{arith}
-use mir.Facts.{Fits-lt, Fits-lit}
 use Rattle.lsp.proofs.Weights.{part_small}
 use Rattle.averages.proofs.average.Goals as goal
 

@@ -1,7 +1,6 @@
 use mathlib.Core.Path.{refl}
-use Prim.Native.Nat.{◌-◌, ◌<◌}
-use native.Mathlib.Omega.{arith}
-use Rattle.lsp.proofs.Weights.{Averaged, none_averaged, one_averaged, all_averaged}
+use Prim.Native.Nat.{◌<◌}
+use Rattle.lsp.proofs.Weights.{none_averaged, one_averaged, all_averaged}
 use Rattle.lsp.proofs.Weights.{one_of_four, first_below, first_scaled, next_fits, one_less}
 use Rattle.lsp.proofs.Weights.{place_below, place_fits, place_scaled}
 use Rattle.averages.proofs.averages.Goals as goal

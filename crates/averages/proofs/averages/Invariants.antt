@@ -1,10 +1,6 @@
 -- `averages::averages` meets its contract. The loop's invariant: the parameters passed are done in all four subframes.
-use mathlib.Core.Path.{refl}
-use Prim.Native.Nat.{◌-◌, ◌<◌}
-use native.Mathlib.Omega.{arith}
-use Rattle.lsp.proofs.Weights.{Averaged, none_averaged, one_averaged, all_averaged}
-use Rattle.lsp.proofs.Weights.{one_of_four, first_below, first_scaled, next_fits, one_less}
-use Rattle.lsp.proofs.Weights.{place_below, place_fits, place_scaled}
+use Prim.Native.Nat.{◌-◌}
+use Rattle.lsp.proofs.Weights.{Averaged}
 use Rattle.averages.proofs.averages.Given as goal
 
 abbrev pub invariant-loop-i : goal.invariant-loop-i

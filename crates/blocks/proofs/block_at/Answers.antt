@@ -1,5 +1,4 @@
 use native.Mathlib.Omega.{arith}
-use borrow.Author.Rules.{rules}
 use Rattle.blocks.proofs.Blocks.{nothing_left, header_cut, past_end}
 use Rattle.blocks.proofs.block_at.Goals as goal
 

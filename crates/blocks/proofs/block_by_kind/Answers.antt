@@ -1,6 +1,5 @@
-use mathlib.Core.Path.{◌∙◌, sym, ap}
+use mathlib.Core.Path.{◌∙◌, sym}
 use native.Mathlib.Omega.{arith}
-use borrow.Author.Rules.{rules}
 use borrow.Author.Tests.{not-true, not-false}
 use Rattle.blocks.proofs.Blocks.{head_size, end_size, wrong_size, head, voice, end, unknown_kind}
 use Rattle.blocks.proofs.block_by_kind.Goals as goal

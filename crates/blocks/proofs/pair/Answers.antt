@@ -1,6 +1,5 @@
 use native.Mathlib.Omega.{arith}
 use Rattle.blocks.proofs.Blocks.{pair_of}
-use borrow.Author.Rules.{rules}
 use Rattle.blocks.proofs.pair.Goals as goal
 
 pub returns : goal.returns

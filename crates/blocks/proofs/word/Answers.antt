@@ -1,5 +1,4 @@
 use Rattle.blocks.proofs.Blocks.{word_of}
-use borrow.Author.Rules.{rules}
 use Rattle.blocks.proofs.word.Goals as goal
 
 pub returns : goal.returns

@@ -1,5 +1,4 @@
 use mathlib.Core.Path.{◌∙◌, refl, ap}
-use borrow.Author.Rules.{rules}
 use Rattle.text.proofs.Laid.{put_nothing, put_length}
 use Rattle.changes.specs.Telling.{refused_line}
 use Rattle.changes.proofs.Texts.{told_as}

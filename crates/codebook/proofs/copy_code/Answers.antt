@@ -1,6 +1,5 @@
 -- `codebook::copy_code` meets its contract: the constant is the book, entry by entry.
 use mathlib.Core.Path.{refl}
-use native.Mathlib.Omega.{arith}
 use Rattle.codebook.specs.Book.{book}
 use Rattle.codebook.proofs.copy_code.Goals as goal
 

@@ -1,11 +1,7 @@
-use Prim.Native.Nat.{◌-◌}
 use native.Mathlib.Omega.{arith}
-use lib.IntN.{pos}
 use mir.Syntax.{w8}
 use mir.Facts.{to_z-of_z}
 use borrow.Author.Rules.{sfits_of}
-use Rattle.laws.proofs.Filled.{Copied}
-use Rattle.codebook.specs.Code.{code_of}
 use Rattle.codebook.proofs.Laws.{length_code}
 use Rattle.codebook.proofs.Codes.{none_copied, one_copied, all_copied}
 use Rattle.codebook.proofs.copy_from.Goals as goal

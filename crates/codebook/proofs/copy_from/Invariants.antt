@@ -1,13 +1,8 @@
 -- `codebook::copy_from` meets its contract. The loop's invariant: the places passed hold the code's elements.
 use Prim.Native.Nat.{◌-◌}
-use native.Mathlib.Omega.{arith}
 use lib.IntN.{pos}
-use mir.Facts.{to_z-of_z}
-use borrow.Author.Rules.{sfits_of}
 use Rattle.laws.proofs.Filled.{Copied}
 use Rattle.codebook.specs.Code.{code_of}
-use Rattle.codebook.proofs.Laws.{length_code}
-use Rattle.codebook.proofs.Codes.{none_copied, one_copied, all_copied}
 use Rattle.codebook.proofs.copy_from.Given as goal
 
 abbrev pub invariant-loop-k : goal.invariant-loop-k

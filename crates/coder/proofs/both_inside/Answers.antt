@@ -1,5 +1,4 @@
 -- `coder::both_inside` meets its contract: the entries of the list of printed bytes.
-use native.Mathlib.Omega.{arith}
 use mir.Facts.{Fits-lt, Fits-lit}
 use Rattle.delays.proofs.Pairs.{byte_read_below, four_codes}
 use Rattle.coder.proofs.both_inside.Goals as goal

@@ -1,5 +1,4 @@
 -- `coder::coded_pair` meets its contract: each test decides one of its cases.
-use native.Mathlib.Omega.{arith}
 use Rattle.delays.proofs.Pairs.{first_unlisted, second_unlisted, below_window, above_window, inside_window}
 use Rattle.coder.proofs.coded_pair.Goals as goal
 

@@ -1,12 +1,6 @@
 -- `coder::codes` meets its contract: the first pair's answer decides, or past it the second's.
-use mathlib.Core.Path.{◌≡◌, ◌∙◌, sym}
-use mathlib.Core.List.{List}
-use Prim.Native.Nat.{ℕ}
-use native.Mathlib.Omega.{arith}
-use borrow.Author.Rules.{rules}
-use lib.ListN.{get_or}
+use mathlib.Core.Path.{◌∙◌, sym}
 use Rattle.delays.specs.Steps.{coded_pair}
-use Rattle.delays.specs.declared.Pair.TheVariants.{Inside}
 use Rattle.delays.proofs.Pairs.{by_first, by_second}
 use Rattle.coder.proofs.codes.Goals as goal
 

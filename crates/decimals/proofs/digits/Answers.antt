@@ -1,5 +1,5 @@
 use native.Mathlib.Omega.{arith}
-use Rattle.text.proofs.Turns.{Counted, counted_none, counted_more, counted_all, counted_few}
+use Rattle.text.proofs.Turns.{counted_none, counted_more, counted_all, counted_few}
 use Rattle.decimals.proofs.digits.Goals as goal
 
 pub loop-left-init : goal.loop-left-init

@@ -1,7 +1,6 @@
 -- `decimals::digits` meets its contract. The loop's invariant: the digits counted, less one, and those of the rest are
 -- all. The measure is the rest.
-use native.Mathlib.Omega.{arith}
-use Rattle.text.proofs.Turns.{Counted, counted_none, counted_more, counted_all, counted_few}
+use Rattle.text.proofs.Turns.{Counted}
 use Rattle.decimals.proofs.digits.Given as goal
 
 abbrev pub invariant-loop-left : goal.invariant-loop-left

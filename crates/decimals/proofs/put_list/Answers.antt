@@ -1,11 +1,8 @@
-use Prim.Native.Nat.{◌-◌}
-use native.Mathlib.Omega.{arith}
 use borrow.Author.Rules.{sfits_of}
-use lib.ListN.{length}
 use mir.Facts.{to_z-of_z}
 use mir.Syntax.{w32}
 use Rattle.text.proofs.Laid.{put_length}
-use Rattle.text.proofs.Rows.{Row, row_start, row_on, row_done}
+use Rattle.text.proofs.Rows.{row_start, row_on, row_done}
 use Rattle.laws.proofs.Clauses.{clauses}
 use Rattle.decimals.proofs.put_list.Goals as goal
 

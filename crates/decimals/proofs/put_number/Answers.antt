@@ -1,7 +1,6 @@
 use Prim.Native.Nat.{◌-◌}
 use native.Mathlib.Omega.{arith}
-use borrow.Author.Rules.{rules}
-use Rattle.text.proofs.Turns.{past, Passed, passed_none, passed_more, Numbers, number_none, number_more}
+use Rattle.text.proofs.Turns.{past, passed_none, passed_more, number_none, number_more}
 use Rattle.text.proofs.Turns.{number_all, number_length}
 use Rattle.laws.proofs.Clauses.{clauses}
 use Rattle.decimals.proofs.put_number.Goals as goal

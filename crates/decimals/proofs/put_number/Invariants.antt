@@ -2,11 +2,7 @@
 -- the others from the last:
 -- of the digits from the one at i on, those that have room are laid, and the rest says those before it. The measure is
 -- i.
-use Prim.Native.Nat.{◌-◌}
-use native.Mathlib.Omega.{arith}
-use borrow.Author.Rules.{rules}
-use Rattle.text.proofs.Turns.{past, Passed, passed_none, passed_more, Numbers, number_none, number_more}
-use Rattle.text.proofs.Turns.{number_all, number_length}
+use Rattle.text.proofs.Turns.{Passed, Numbers}
 use Rattle.decimals.proofs.put_number.Given as goal
 
 abbrev pub invariant-loop-i : goal.invariant-loop-i

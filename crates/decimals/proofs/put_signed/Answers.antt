@@ -1,7 +1,6 @@
 -- `decimals::put_signed` meets its contract: a minus and the size, or the size alone.
 use mathlib.Core.Path.{◌∙◌, ap}
 use native.Mathlib.Omega.{arith}
-use borrow.Author.Rules.{rules}
 use mir.Facts.{to_z-of_z}
 use Rattle.text.specs.Signed.{raised_of}
 use Rattle.text.proofs.Signed.{put_below, put_from}

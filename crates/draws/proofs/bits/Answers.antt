@@ -1,7 +1,6 @@
 -- `draws::bits` meets its contract: by the number's sign, the number or 65,536 more.
 use Rattle.std.proofs.Common.{to_z-of_z}
 use Rattle.draws.proofs.Sixteen.{wider, widened, Lifted, lifted, Plain, plain}
-use Rattle.draws.proofs.bits.Reads as reads
 use Rattle.draws.proofs.bits.Goals as goal
 
 -- the number is negative

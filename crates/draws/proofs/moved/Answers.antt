@@ -1,6 +1,5 @@
 -- `draws::moved` meets its contract.
 use Rattle.draws.proofs.Drawing.{round, down}
-use Rattle.std.proofs.Common.{arith}
 use Rattle.draws.proofs.moved.Goals as goal
 
 pub returns-then-p-le1 : goal.returns-then-p-le1

@@ -1,7 +1,6 @@
 -- `draws::signed` meets its contract: bits from half of their range on stand for 65,536 less.
-use Rattle.std.proofs.Common.{arith, to_z-of_z, rules}
+use Rattle.std.proofs.Common.{arith, to_z-of_z}
 use Rattle.draws.proofs.Sixteen.{Lowered, lowered}
-use Rattle.draws.proofs.signed.Reads as reads
 use Rattle.draws.proofs.signed.Goals as goal
 
 -- the bits are from half of their range on

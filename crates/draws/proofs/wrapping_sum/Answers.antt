@@ -1,6 +1,5 @@
 -- `draws::wrapping_sum` meets its contract: the sum of the bits, read as signed, is the wrapped sum.
 use Rattle.draws.proofs.Drawing.{summed}
-use Rattle.std.proofs.Common.{rules}
 use Rattle.draws.proofs.wrapping_sum.Goals as goal
 
 pub returns : goal.returns

@@ -1,5 +1,3 @@
-use native.Mathlib.Omega.{arith}
-use borrow.Author.Rules.{rules}
 use Rattle.text.proofs.Laid.{put_length}
 use Rattle.ends.proofs.put_head.Goals as goal
 

@@ -1,6 +1,5 @@
 -- `entering::append` meets its contract.
 use native.Mathlib.Omega.{arith}
-use borrow.Author.Rules.{rules}
 use Rattle.tally.proofs.Rows.{no_room, room}
 use Rattle.laws.proofs.Clauses.{clauses}
 use Rattle.entering.proofs.append.Goals as goal

@@ -1,6 +1,5 @@
 -- `entering::enter` meets its contract: by the row of the key it is one of the three ways of `Rows`.
 use native.Mathlib.Omega.{arith}
-use borrow.Author.Rules.{rules}
 use Rattle.tally.proofs.Rows.{told_fits, row_held, row_none, row_after, held_same, held_other, held_none}
 use Rattle.laws.proofs.Clauses.{clauses}
 use Rattle.entering.proofs.enter.Goals as goal

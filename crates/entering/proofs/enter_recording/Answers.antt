@@ -1,5 +1,4 @@
 -- `entering::enter_recording` meets its contract: by how the walk ends.
-use borrow.Author.Rules.{rules}
 use Rattle.laws.proofs.Clauses.{clauses}
 use Rattle.tally.proofs.Rows.{recording_refused, recording_sound}
 use Rattle.entering.proofs.enter_recording.Goals as goal

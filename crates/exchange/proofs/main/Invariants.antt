@@ -1,5 +1,4 @@
 -- `exchange::main` is safe and ends: the turns that are left grow fewer.
-use native.Mathlib.Omega.{arith}
 use Rattle.exchange.proofs.main.Given as goal
 
 abbrev pub invariant-loop-turns : goal.invariant-loop-turns

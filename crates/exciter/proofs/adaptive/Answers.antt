@@ -1,10 +1,10 @@
 use mathlib.Core.Path.{◌≡◌}
-use Prim.Native.Nat.{◌-◌, ◌≤◌, min}
+use Prim.Native.Nat.{min}
 use native.Mathlib.Omega.{arith}
 use borrow.Author.Rules.{sfits_of}
 use mir.Facts.{to_z-of_z}
 use mir.Syntax.{w32}
-use Rattle.excitation.proofs.Periods.{Coded, coded_none, coded_first, coded_later, coded_all}
+use Rattle.excitation.proofs.Periods.{coded_none, coded_first, coded_later, coded_all}
 use Rattle.exciter.proofs.adaptive.Goals as goal
 use Rattle.exciter.proofs.adaptive.Goals.{then-whole-lt60, else-whole-lt60}
 

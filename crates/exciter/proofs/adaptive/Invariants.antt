@@ -1,12 +1,7 @@
 -- `exciter::adaptive` meets its contract. Both loops have one invariant: the elements passed are those of the
 -- adaptive code.
-use mathlib.Core.Logic.{⊎_elim}
-use mathlib.Core.Path.{◌≡◌}
 use Prim.Native.Nat.{◌-◌, ◌≤◌, min}
-use native.Mathlib.Omega.{arith}
-use borrow.Author.Rules.{sfits_of}
-use mir.Facts.{to_z-of_z}
-use Rattle.excitation.proofs.Periods.{Coded, coded_none, coded_first, coded_later, coded_all}
+use Rattle.excitation.proofs.Periods.{Coded}
 use Rattle.exciter.proofs.adaptive.Given as goal
 
 abbrev pub invariant-loop-t : goal.invariant-loop-t

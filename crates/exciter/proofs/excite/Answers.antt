@@ -1,12 +1,10 @@
 -- `exciter::excite` meets its contract: an arm for each outcome.
-use mathlib.Core.Path.{◌≡◌, ◌∙◌, sym, ap}
+use mathlib.Core.Path.{◌∙◌, sym, ap}
 use native.Mathlib.Omega.{arith}
-use borrow.Author.Rules.{rules}
 use lib.ListN.{length}
-use Rattle.excitation.specs.Outcome.{refusal_of, outcome_of}
-use Rattle.excitation.specs.declared.Outcome.{Outcome}
-use Rattle.excitation.specs.declared.Outcome.TheVariants.{Written, WrongLength, TooLarge, NotListed, NotWhole}
-use Rattle.excitation.proofs.Outcomes.{Answers, answered, stays, written_sixty}
+use Rattle.excitation.specs.Outcome.{outcome_of}
+use Rattle.excitation.specs.declared.Outcome.TheVariants.{WrongLength, TooLarge, NotListed, NotWhole}
+use Rattle.excitation.proofs.Outcomes.{answered, stays, written_sixty}
 use Rattle.laws.proofs.Clauses.{clauses}
 use Rattle.exciter.proofs.excite.Goals as goal
 

@@ -1,5 +1,4 @@
 -- `exciter::gain_in` meets its contract: an entry of sixteen bits has room in 32.
-use native.Mathlib.Omega.{arith}
 use borrow.Author.Rules.{sfits_of}
 use lib.IntN.{pos}
 use lib.ListN.{get_or}

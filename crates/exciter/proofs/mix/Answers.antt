@@ -1,13 +1,10 @@
 use mathlib.Core.Path.{◌∙◌, ap₂}
-use Prim.Native.Nat.{◌-◌}
 use native.Mathlib.Omega.{arith}
 use borrow.Author.Rules.{sfits_of}
 use lib.IntN.{ℤ}
-use mir.Syntax.{w32}
-use mir.Val.{to_z}
 use mir.Facts.{to_z-of_z}
 use Rattle.excitation.specs.Excitation.{mixed_of}
-use Rattle.excitation.proofs.Mixes.{Mixed, mixed_none, mixed_more, mixed_long, mixed_all}
+use Rattle.excitation.proofs.Mixes.{mixed_none, mixed_more, mixed_long, mixed_all}
 use Rattle.exciter.proofs.mix.Goals as goal
 
 pub loop-k-init : goal.loop-k-init

@@ -1,15 +1,7 @@
 -- `exciter::mix` meets its contract. The loop's invariant: the elements passed are mixed, the others are still those
 -- of the adaptive code.
-use mathlib.Core.Path.{◌∙◌, ap₂}
 use Prim.Native.Nat.{◌-◌}
-use native.Mathlib.Omega.{arith}
-use borrow.Author.Rules.{sfits_of}
-use lib.IntN.{ℤ}
-use mir.Syntax.{w32}
-use mir.Val.{to_z}
-use mir.Facts.{to_z-of_z}
-use Rattle.excitation.specs.Excitation.{mixed_of}
-use Rattle.excitation.proofs.Mixes.{Mixed, mixed_none, mixed_more, mixed_long, mixed_all}
+use Rattle.excitation.proofs.Mixes.{Mixed}
 use Rattle.exciter.proofs.mix.Given as goal
 
 abbrev pub invariant-loop-k : goal.invariant-loop-k

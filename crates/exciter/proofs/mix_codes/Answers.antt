@@ -1,7 +1,7 @@
 -- `exciter::mix_codes` meets its contract: the two gains, the ternary code, and the mixing of the two codes.
 use mathlib.Core.Path.{◌∙◌, refl, ap}
 use native.Mathlib.Omega.{arith}
-use borrow.Author.Rules.{rules, sfits_of}
+use borrow.Author.Rules.{sfits_of}
 use lib.ListN.{length}
 use Rattle.gains.specs.Tables.{cg_table, pg_table}
 use Rattle.codebook.proofs.Laws.{length_code}

@@ -1,11 +1,10 @@
 use mathlib.Core.Path.{ap}
-use Prim.Native.Nat.{◌-◌, ◌≤◌}
 use native.Mathlib.Omega.{arith}
 use borrow.Author.Rules.{sfits_of}
 use mir.Facts.{to_z-of_z}
 use mir.Syntax.{w32}
 use Rattle.excitation.specs.Register.{holding}
-use Rattle.excitation.proofs.Shifts.{Moved, moved_none, moved_old, moved_new, moved_all}
+use Rattle.excitation.proofs.Shifts.{moved_none, moved_old, moved_new, moved_all}
 use Rattle.exciter.proofs.moved.Goals as goal
 
 pub loop-i-init : goal.loop-i-init

@@ -1,12 +1,7 @@
 -- `exciter::moved` meets its contract. Both loops have one invariant: the elements passed are those of the register
 -- after.
-use mathlib.Core.Path.{ap}
 use Prim.Native.Nat.{◌-◌, ◌≤◌}
-use native.Mathlib.Omega.{arith}
-use borrow.Author.Rules.{sfits_of}
-use mir.Facts.{to_z-of_z}
-use Rattle.excitation.specs.Register.{holding}
-use Rattle.excitation.proofs.Shifts.{Moved, moved_none, moved_old, moved_new, moved_all}
+use Rattle.excitation.proofs.Shifts.{Moved}
 use Rattle.exciter.proofs.moved.Given as goal
 
 abbrev pub invariant-loop-i : goal.invariant-loop-i

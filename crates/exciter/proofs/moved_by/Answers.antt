@@ -2,7 +2,6 @@
 -- them.
 use mathlib.Core.Path.{◌∙◌, sym, ap}
 use mathlib.Core.List.{List}
-use native.Mathlib.Omega.{arith}
 use borrow.Author.Rules.{rules}
 use lib.IntN.{ℤ}
 use lib.ListN.{length}
@@ -11,7 +10,7 @@ use Rattle.excitation.specs.Excitation.{mixed_by, excitation_of}
 use Rattle.excitation.specs.Outcome.{register_moved}
 use Rattle.excitation.proofs.Periods.{adaptive_sixty}
 use Rattle.excitation.proofs.Mixes.{mixed_sixty}
-use Rattle.excitation.proofs.Outcomes.{Fitting, fitting}
+use Rattle.excitation.proofs.Outcomes.{fitting}
 use Rattle.exciter.proofs.moved_by.Goals as goal
 
 pub adaptive-requires : goal.adaptive-requires

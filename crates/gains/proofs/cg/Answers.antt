@@ -1,5 +1,4 @@
 -- `gains::cg` meets its contract: the constant `CG` is the list `cg_table`.
-use native.Mathlib.Omega.{arith}
 use Rattle.gains.specs.Tables.{cg_table}
 use Rattle.gains.proofs.cg.Goals as goal
 

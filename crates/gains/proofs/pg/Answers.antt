@@ -1,5 +1,4 @@
 -- `gains::pg` meets its contract: the constant `PG` is the list `pg_table`.
-use native.Mathlib.Omega.{arith}
 use Rattle.gains.specs.Tables.{pg_table}
 use Rattle.gains.proofs.pg.Goals as goal
 

@@ -1,7 +1,7 @@
 -- `gateway::oatlantern_read_frame` meets its contract: what was read and put, or the refusal.
 use Prim.Native.Nat.{◌+◌, ◌*◌, ◌<◌}
 use native.Mathlib.Omega.{arith}
-use borrow.Author.Rules.{rules, sfits_of}
+use borrow.Author.Rules.{sfits_of}
 use Rattle.gateway.proofs.Ranges.{reading_small}
 use Rattle.gateway.proofs.Answered.{wrong_frame, not_put, was_read}
 use Rattle.laws.proofs.Clauses.{clauses}

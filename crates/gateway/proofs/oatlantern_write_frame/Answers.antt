@@ -1,6 +1,6 @@
 -- `gateway::oatlantern_write_frame` meets its contract: the record taken and its frame asked for, or the refusal.
 use mathlib.Core.Path.{◌∙◌}
-use borrow.Author.Rules.{rules, sfits_of}
+use borrow.Author.Rules.{sfits_of}
 use mir.Facts.{to_z-of_z}
 use mir.Syntax.{w32}
 use Rattle.gateway.proofs.Answered.{wrong_bytes, was_asked}

@@ -1,5 +1,4 @@
 -- `gateway::result` meets its contract: each answer has its number.
-use borrow.Author.Rules.{rules}
 use Rattle.gateway.proofs.Answered.{told_by}
 use Rattle.gateway.proofs.result.Goals as goal
 

@@ -1,5 +1,4 @@
 -- `hear::hear_input` is safe: the bytes read are within their buffer.
-use borrow.Author.Rules.{rules}
 use Rattle.input.proofs.Laws.{read_within, read_long}
 use Rattle.hear.proofs.hear_input.Goals as goal
 

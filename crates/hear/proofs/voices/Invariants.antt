@@ -1,7 +1,5 @@
 -- `hear::voices` is safe and ends: nothing has to hold from turn to turn.
 use Prim.Native.Nat.{◌-◌}
-use native.Mathlib.Omega.{arith}
-use borrow.Author.Rules.{rules}
 use Rattle.hear.proofs.voices.Given as goal
 
 abbrev pub invariant-loop-k : goal.invariant-loop-k

@@ -1,7 +1,5 @@
 -- `heard::delays_of` meets its contract: an arm for each meaning of the four codes.
 use mathlib.Core.Path.{◌∙◌, sym, ap}
-use native.Mathlib.Omega.{arith}
-use borrow.Author.Rules.{rules}
 use Rattle.delays.specs.Codes.{meant_by}
 use Rattle.values.specs.Values.{delays_in, delays_of}
 use Rattle.heard.proofs.delays_of.Goals as goal

@@ -1,6 +1,5 @@
 -- `heard::gain_in` meets its contract: an arm for each answer of the look-up.
 use mathlib.Core.Path.{◌∙◌, sym, ap}
-use native.Mathlib.Omega.{arith}
 use borrow.Author.Rules.{rules}
 use mir.Facts.{to_z-of_z}
 use mir.Syntax.{w32}

@@ -1,8 +1,7 @@
 -- `heard::heard_values` meets its contract: each step's answer put in its place.
-use mathlib.Core.Path.{◌≡◌, ◌∙◌, ap}
-use native.Mathlib.Omega.{arith}
+use mathlib.Core.Path.{◌∙◌, ap}
 use Rattle.gains.specs.Tables.{cg_table, pg_table}
-use Rattle.values.specs.Values.{cg_index, pg_index, in_subframes, gains_of}
+use Rattle.values.specs.Values.{in_subframes, gains_of}
 use Rattle.values.proofs.Answered.{heard_whole}
 use Rattle.heard.proofs.heard_values.Goals as goal
 

@@ -1,5 +1,4 @@
 -- `heard::in_subframes` meets its contract.
-use native.Mathlib.Omega.{arith}
 use Rattle.values.proofs.Answered.{placed}
 use Rattle.heard.proofs.in_subframes.Goals as goal
 

@@ -1,7 +1,6 @@
 -- `hearer::lay` meets its contract: the values as they are, and the mark, which has room.
 use mathlib.Core.Path.{refl}
 use native.Mathlib.Omega.{arith}
-use borrow.Author.Rules.{rules, sfits_of}
 use mir.Syntax.{w32}
 use mir.Facts.{to_z_pos}
 use Rattle.hearer.proofs.lay.Goals as goal

@@ -1,5 +1,4 @@
 -- `hearer::state_in` meets its contract.
-use borrow.Author.Rules.{rules}
 use Rattle.hearer.proofs.States.{state_told}
 use Rattle.hearer.proofs.state_in.Goals as goal
 

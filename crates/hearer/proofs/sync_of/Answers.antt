@@ -1,5 +1,4 @@
 -- `hearer::sync_of` meets its contract: without a last SY, and with one.
-use borrow.Author.Rules.{rules}
 use Rattle.hearer.proofs.States.{sync_told}
 use Rattle.hearer.proofs.sync_of.Goals as goal
 

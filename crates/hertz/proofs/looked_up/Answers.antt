@@ -1,8 +1,8 @@
 use mathlib.Core.Path.{refl}
-use Prim.Native.Nat.{◌-◌, ◌<◌}
+use Prim.Native.Nat.{◌<◌}
 use native.Mathlib.Omega.{arith}
 use lib.ListN.{get_or}
-use Rattle.laws.proofs.Filled.{Filled, filled_none, filled_done}
+use Rattle.laws.proofs.Filled.{filled_none, filled_done}
 use Rattle.lsp.specs.Table.{hz_at}
 use Rattle.lsp.proofs.Columns.{row_small, one_looked}
 use Rattle.hertz.proofs.looked_up.Goals as goal

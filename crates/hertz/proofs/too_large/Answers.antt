@@ -1,6 +1,4 @@
-use Prim.Native.Nat.{◌-◌}
-use native.Mathlib.Omega.{arith}
-use Rattle.lsp.proofs.Columns.{Fitting, none_fitting, shift_small, one_fitting, wide_found, all_fitting}
+use Rattle.lsp.proofs.Columns.{none_fitting, shift_small, one_fitting, wide_found, all_fitting}
 use Rattle.hertz.proofs.too_large.Goals as goal
 
 pub loop-i-init : goal.loop-i-init

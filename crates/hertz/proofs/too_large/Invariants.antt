@@ -1,7 +1,6 @@
 -- `hertz::too_large` meets its contract. The loop's invariant: the bits are as printed, and the indices passed fit.
 use Prim.Native.Nat.{◌-◌}
-use native.Mathlib.Omega.{arith}
-use Rattle.lsp.proofs.Columns.{Fitting, none_fitting, shift_small, one_fitting, wide_found, all_fitting}
+use Rattle.lsp.proofs.Columns.{Fitting}
 use Rattle.hertz.proofs.too_large.Given as goal
 
 abbrev pub invariant-loop-i : goal.invariant-loop-i

@@ -1,5 +1,4 @@
 use native.Mathlib.Omega.{arith}
-use borrow.Author.Rules.{rules}
 use Rattle.kept.proofs.Returns.{keep_made}
 use Rattle.kept.proofs.keep_by.Goals as goal
 

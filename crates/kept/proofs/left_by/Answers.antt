@@ -1,6 +1,5 @@
 use mathlib.Core.Path.{◌∙◌, sym, ap}
 use native.Mathlib.Omega.{arith}
-use borrow.Author.Rules.{rules}
 use Rattle.blocks.specs.declared.Ending.TheVariants.{Refused}
 use Rattle.kept.specs.Keeping.{left_by}
 use Rattle.kept.proofs.Keeps.{past_end_at}

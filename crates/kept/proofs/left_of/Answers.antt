@@ -1,5 +1,4 @@
 use mathlib.Core.Path.{◌∙◌, sym, ap}
-use borrow.Author.Rules.{rules}
 use Rattle.kept.specs.Keeping.{left_at}
 use Rattle.kept.proofs.left_of.Goals as goal
 

@@ -1,5 +1,5 @@
 -- `leaves::run` is safe and ends: nothing has to hold from round to round.
-use Rattle.std.proofs.Common.{◌-◌, arith, rules}
+use Rattle.std.proofs.Common.{◌-◌}
 use Rattle.leaves.proofs.run.Given as goal
 
 abbrev pub invariant-loop-r : goal.invariant-loop-r

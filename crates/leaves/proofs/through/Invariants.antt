@@ -1,5 +1,5 @@
 -- `leaves::through` is safe and ends: a case ends after it begins.
-use Rattle.std.proofs.Common.{◌-◌, length, arith, rules}
+use Rattle.std.proofs.Common.{◌-◌, length}
 use Rattle.leaves.proofs.through.Given as goal
 
 abbrev pub invariant-loop-at : goal.invariant-loop-at

@@ -1,6 +1,6 @@
 -- `ledger::oatlantern_tally_enter_recording` meets its contract: a recording that is not refused, and one that is.
 use mathlib.Core.Path.{◌∙◌}
-use borrow.Author.Rules.{rules, sfits_of}
+use borrow.Author.Rules.{sfits_of}
 use mir.Facts.{to_z-of_z}
 use mir.Syntax.{w32}
 use Rattle.ledger.proofs.Told.{was_entered, was_refused}

@@ -1,5 +1,4 @@
 -- `ledger::oatlantern_tally_held` meets its contract: a key that is held, and one that is not.
-use borrow.Author.Rules.{rules}
 use Rattle.ledger.proofs.Told.{held_told}
 use Rattle.laws.proofs.Clauses.{clauses}
 use Rattle.ledger.proofs.oatlantern_tally_held.Goals as goal

@@ -1,6 +1,6 @@
 -- `ledger::result` meets its contract: each answer has its number.
 use mathlib.Core.Path.{sym, ap, ◌∙◌}
-use borrow.Author.Rules.{rules, sfits_of}
+use borrow.Author.Rules.{sfits_of}
 use mir.Facts.{to_z-of_z}
 use mir.Syntax.{w32}
 use Rattle.ledger.specs.Results.{enter_result}

@@ -1,5 +1,4 @@
 -- `lent::main` is safe: the bytes read are within their buffer.
-use borrow.Author.Rules.{rules}
 use Rattle.input.proofs.Laws.{read_within, read_long}
 use Rattle.lent.proofs.main.Goals as goal
 

@@ -1,7 +1,6 @@
 -- `lent::run` is safe: what is lent is within the buffer.
 use mathlib.Core.Path.{sym}
 use native.Mathlib.Omega.{arith}
-use borrow.Author.Rules.{rules}
 use lib.Seq.{length-take-le}
 use Rattle.lent.proofs.run.Goals as goal
 

@@ -1,5 +1,4 @@
 -- `lines::form_of` meets its contract: each line has its form.
-use borrow.Author.Rules.{rules}
 use Rattle.lines.proofs.Lines.{shows_line}
 use Rattle.lines.proofs.form_of.Goals as goal
 

@@ -1,5 +1,4 @@
 -- `lines::frame` meets its contract: after the correction and its letter the refusal, or the numbers of what was heard.
-use native.Mathlib.Omega.{arith}
 use Rattle.lines.proofs.Lines.{said_refused, said_heard}
 use Rattle.lines.proofs.frame.Goals as goal
 

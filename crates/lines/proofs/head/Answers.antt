@@ -1,5 +1,4 @@
 -- `lines::head` meets its contract.
-use native.Mathlib.Omega.{arith}
 use Rattle.lines.proofs.Lines.{head_text}
 use Rattle.lines.proofs.head.Goals as goal
 

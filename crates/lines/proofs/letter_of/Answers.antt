@@ -1,6 +1,5 @@
 -- `lines::letter_of` meets its contract: the correction is one of its cases.
 use native.Mathlib.Omega.{arith}
-use borrow.Author.Rules.{rules}
 use Rattle.lines.proofs.Lines.{letter_told}
 use Rattle.lines.proofs.letter_of.Goals as goal
 

@@ -1,11 +1,9 @@
 use mathlib.Core.Path.{◌≡◌}
-use Prim.Native.Nat.{◌-◌}
 use native.Mathlib.Omega.{arith}
 use borrow.Author.Rules.{rules}
-use lib.ListN.{length, get_or}
-use Rattle.text.proofs.Laid.{Put, put_length}
-use Rattle.lines.specs.Forms.{shown_by}
-use Rattle.lines.proofs.Forms.{shown_number, shown_byte, Laying, laying_start, laying_on, laying_done}
+use lib.ListN.{length}
+use Rattle.text.proofs.Laid.{put_length}
+use Rattle.lines.proofs.Forms.{shown_number, shown_byte, laying_start, laying_on, laying_done}
 use Rattle.laws.proofs.Clauses.{clauses}
 use Rattle.lines.proofs.put_form.Goals as goal
 use Rattle.lines.proofs.put_form.Goals.{then-c-lt8, else-c-lt8}
@@ -19,8 +17,8 @@ loop-i-preserved c =
     laying_on c.loop-i.invariant c.loop-i-test.true
     (omega (arith, c.least-size.ensures, c.loop-i-test.true))
     (elim c.if-c-lt8.branch [
-      then-c-lt8 w ↦ shown_number x.numbers _ _ _ w.out-is w.end-is w.if-c-lt8.true (w.put_number-end.ensures.value, w.put_number-end.ensures.out_after)
-    | else-c-lt8 w ↦ shown_byte x.numbers _ _ _ w.out-is w.end-is w.if-c-lt8.false (w.put_byte-end.ensures.value, w.put_byte-end.ensures.out_after)
+      | then-c-lt8 w ↦ shown_number x.numbers _ _ _ w.out-is w.end-is w.if-c-lt8.true (w.put_number-end.ensures.value, w.put_number-end.ensures.out_after)
+      | else-c-lt8 w ↦ shown_byte x.numbers _ _ _ w.out-is w.end-is w.if-c-lt8.false (w.put_byte-end.ensures.value, w.put_byte-end.ensures.out_after)
     ])
 
 pub returns : goal.returns

@@ -1,5 +1,4 @@
 use native.Mathlib.Omega.{arith}
-use borrow.Author.Rules.{rules}
 use Rattle.lines.proofs.Lines.{shows_told, shows_longest}
 use Rattle.lines.proofs.refusal.Goals as goal
 

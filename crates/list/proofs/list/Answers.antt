@@ -1,6 +1,5 @@
 -- `list::list` is safe: the text laid is within its buffer.
 use mathlib.Core.Path.{◌∙◌, sym}
-use borrow.Author.Rules.{rules}
 use lib.Seq.{length-take-le}
 use Rattle.listing.proofs.Laws.{text_within}
 use Rattle.list.proofs.list.Goals as goal

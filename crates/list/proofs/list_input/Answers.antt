@@ -1,5 +1,4 @@
 -- `list::list_input` is safe: the bytes read are within their buffer.
-use borrow.Author.Rules.{rules}
 use Rattle.input.proofs.Laws.{read_within, read_long}
 use Rattle.list.proofs.list_input.Goals as goal
 

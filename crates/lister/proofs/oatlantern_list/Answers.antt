@@ -1,6 +1,6 @@
 -- `lister::oatlantern_list` meets its contract: a buffer of the wrong length, and a text.
 use mathlib.Core.Path.{◌∙◌}
-use borrow.Author.Rules.{rules, sfits_of}
+use borrow.Author.Rules.{sfits_of}
 use mir.Facts.{to_z-of_z}
 use mir.Syntax.{w32}
 use Rattle.lister.proofs.Told.{no_room, was_listed}

@@ -1,4 +1,3 @@
-use borrow.Author.Rules.{rules}
 use Rattle.passes.proofs.Through.{sound_walk}
 use Rattle.text.proofs.Laid.{put_length}
 use Rattle.listing.proofs.Listings.{wrong_length, listed_refused, listed_sound}

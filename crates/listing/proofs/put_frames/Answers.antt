@@ -1,10 +1,7 @@
 use native.Mathlib.Omega.{arith}
-use Prim.Native.Nat.{◌-◌}
-use lib.ListN.{length}
-use Rattle.blocks.specs.Frames.{frames_of}
 use Rattle.passes.proofs.Through.{step_further}
 use Rattle.text.proofs.Laid.{put_length}
-use Rattle.listing.proofs.Frames.{Listing, listing_start, listing_on, listing_done}
+use Rattle.listing.proofs.Frames.{listing_start, listing_on, listing_done}
 use Rattle.laws.proofs.Clauses.{clauses}
 use Rattle.listing.proofs.put_frames.Goals as goal
 

@@ -1,4 +1,3 @@
-use native.Mathlib.Omega.{arith}
 use Rattle.passes.proofs.Passes.{start_walk}
 use Rattle.text.proofs.Laid.{put_length, put_within}
 use Rattle.listing.proofs.Listings.{sound_put}

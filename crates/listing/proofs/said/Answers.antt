@@ -1,4 +1,3 @@
-use native.Mathlib.Omega.{arith}
 use Rattle.listing.proofs.Frames.{said_of_lem}
 use Rattle.listing.proofs.said.Goals as goal
 

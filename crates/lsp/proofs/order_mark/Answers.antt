@@ -1,7 +1,5 @@
-use Prim.Native.Nat.{◌-◌}
 use native.Mathlib.Omega.{arith}
-use Rattle.laws.proofs.Lowest.{NoneUpTo, none_yet}
-use Rattle.lsp.specs.Order.{falls}
+use Rattle.laws.proofs.Lowest.{none_yet}
 use Rattle.lsp.proofs.Falls.{one_more, found, nowhere}
 use Rattle.lsp.proofs.order_mark.Goals as goal
 

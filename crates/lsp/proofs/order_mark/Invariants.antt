@@ -1,9 +1,7 @@
 -- `lsp::order_mark` meets its contract. The loop's invariant: no pair passed falls.
 use Prim.Native.Nat.{◌-◌}
-use native.Mathlib.Omega.{arith}
-use Rattle.laws.proofs.Lowest.{NoneUpTo, none_yet}
+use Rattle.laws.proofs.Lowest.{NoneUpTo}
 use Rattle.lsp.specs.Order.{falls}
-use Rattle.lsp.proofs.Falls.{one_more, found, nowhere}
 use Rattle.lsp.proofs.order_mark.Given as goal
 
 abbrev pub invariant-loop-i : goal.invariant-loop-i

@@ -1,6 +1,5 @@
 -- `marks::mark_of` meets its contract.
 use mathlib.Core.Path.{◌∙◌, ap}
-use native.Mathlib.Omega.{arith}
 use Rattle.lsp.specs.Order.{mark_of}
 use Rattle.lsp.specs.declared.Hertz.{Hertz}
 use Rattle.frame.specs.Answers.{record_mark}

@@ -1,5 +1,4 @@
 -- `meanings::meaning` meets its contract: the four codes one by one.
-use native.Mathlib.Omega.{arith}
 use Rattle.delays.specs.Codes.{meant_by}
 use Rattle.meanings.proofs.meaning.Goals as goal
 

@@ -1,6 +1,6 @@
 -- `mender::oatlantern_salvage` meets its contract: what salvaging answered and left, in numbers.
 use mathlib.Core.Path.{◌∙◌}
-use borrow.Author.Rules.{rules, sfits_of}
+use borrow.Author.Rules.{sfits_of}
 use mir.Facts.{to_z-of_z}
 use mir.Syntax.{w32}
 use Rattle.mender.proofs.Told.{refused_by, came_to}

@@ -1,6 +1,5 @@
 -- `mixing::whole` meets its contract: a sum below zero, and any other.
 use native.Mathlib.Omega.{arith}
-use borrow.Author.Rules.{rules}
 use Rattle.mixing.proofs.Rounded.{Below, below, below_goes, below_most, back_fits, below_whole}
 use Rattle.mixing.proofs.Rounded.{NotBelow, not_below, up_goes, up_most, up_whole}
 use Rattle.mixing.proofs.whole.Goals as goal

@@ -1,10 +1,7 @@
 use native.Mathlib.Omega.{arith}
 use borrow.Author.Rules.{sfits_of}
-use lib.ListN.{length}
 use mir.Syntax.{w16}
-use mir.Val.{to_z}
-use Rattle.gains.specs.Nearest.{apart_at}
-use Rattle.gains.proofs.Down.{Passed, only_last, as_near, farther, read_apart, come_down}
+use Rattle.gains.proofs.Down.{only_last, as_near, farther, read_apart, come_down}
 use Rattle.nearest.proofs.nearest.Goals as goal
 
 pub loop-i-init : goal.loop-i-init

@@ -1,12 +1,8 @@
 -- `nearest::nearest` meets its contract. The loop's invariant: of the entries passed, from `i` on, the one at `best` is
 -- the nearest and `near` away, and the lowest such. Each turn is one of `Down`.
-use native.Mathlib.Omega.{arith}
-use borrow.Author.Rules.{sfits_of}
 use lib.ListN.{length}
-use mir.Syntax.{w32}
-use mir.Val.{to_z}
 use Rattle.gains.specs.Nearest.{apart_at}
-use Rattle.gains.proofs.Down.{Passed, only_last, as_near, farther, read_apart, come_down}
+use Rattle.gains.proofs.Down.{Passed}
 use Rattle.nearest.proofs.nearest.Given as goal
 
 abbrev pub invariant-loop-i : goal.invariant-loop-i

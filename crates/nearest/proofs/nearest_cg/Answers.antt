@@ -1,6 +1,5 @@
 -- `nearest::nearest_cg` meets its contract: the constant `CG` is the list `cg_table`.
 use mathlib.Core.Path.{◌∙◌, ap}
-use borrow.Author.Rules.{rules}
 use mir.Facts.{to_z-of_z}
 use Rattle.gains.specs.Tables.{cg_table}
 use Rattle.gains.specs.Nearest.{nearest_of}

@@ -1,6 +1,5 @@
 -- `nearest::nearest_pg` meets its contract: the constant `PG` is the list `pg_table`.
 use mathlib.Core.Path.{◌∙◌, ap}
-use borrow.Author.Rules.{rules}
 use mir.Facts.{to_z-of_z}
 use Rattle.gains.specs.Tables.{pg_table}
 use Rattle.gains.specs.Nearest.{nearest_of}

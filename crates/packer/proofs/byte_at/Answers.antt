@@ -1,10 +1,10 @@
 use mathlib.Core.Path.{◌∙◌, ap}
-use Prim.Native.Nat.{ℕ, ◌+◌, ◌-◌, ◌*◌, ◌/◌, ◌<◌}
+use Prim.Native.Nat.{ℕ, ◌+◌, ◌*◌, ◌<◌}
 use native.Mathlib.Omega.{arith}
 use lib.ListN.{length, get_or}
 use Rattle.frame.specs.Frame.{sent}
 use Rattle.frame.proofs.Places.{length_entries}
-use Rattle.frame.proofs.Packed.{Shifted, shifted_none, shifted_turn, shifted_byte, shifted_room, byte_shifted}
+use Rattle.frame.proofs.Packed.{shifted_none, shifted_turn, shifted_byte, shifted_room, byte_shifted}
 use Rattle.frame.proofs.Packed.{sent_field, sent_small}
 use Rattle.packer.proofs.byte_at.Goals as goal
 

@@ -1,12 +1,9 @@
 -- `packer::byte_at` meets its contract. The loop's invariant: the bits passed are shifted in, the last of them lowest.
-use mathlib.Core.Path.{◌∙◌, ap}
-use Prim.Native.Nat.{◌+◌, ◌-◌, ◌*◌, ◌/◌, ◌<◌}
-use native.Mathlib.Omega.{arith}
-use lib.ListN.{length, get_or}
+use Prim.Native.Nat.{◌-◌, ◌*◌}
+use lib.ListN.{get_or}
 use Rattle.frame.specs.Frame.{sent}
-use Rattle.frame.proofs.Places.{length_entries}
-use Rattle.frame.proofs.Packed.{Shifted, shifted_none, shifted_turn, shifted_byte, shifted_room, byte_shifted}
-use Rattle.frame.proofs.Packed.{sent_field, sent_small}
+use Rattle.frame.proofs.Packed.{Shifted}
+use Rattle.frame.proofs.Packed.{sent_small}
 use Rattle.packer.proofs.byte_at.Given as goal
 
 abbrev pub invariant-loop-q : goal.invariant-loop-q

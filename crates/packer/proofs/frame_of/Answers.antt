@@ -1,11 +1,9 @@
 use mathlib.Core.Path.{◌∙◌, sym, refl, ap}
-use Prim.Native.Nat.{◌-◌}
 use native.Mathlib.Omega.{arith}
-use lib.ListN.{length, get_or}
-use Rattle.laws.proofs.Filled.{Filled, filled_none, filled_more, filled_done}
-use Rattle.frame.specs.Frame.{sent, packed}
+use lib.ListN.{length}
+use Rattle.laws.proofs.Filled.{filled_none, filled_more, filled_done}
+use Rattle.frame.specs.Frame.{packed}
 use Rattle.frame.proofs.Answered.{parity_fits, parity_long, frame_is}
-use Rattle.frame.proofs.Laws.{packed_byte}
 use Rattle.frame.proofs.Places.{length_entries}
 use Rattle.packer.proofs.frame_of.Goals as goal
 

@@ -1,14 +1,10 @@
 -- `packer::frame_of` meets its contract: the indices by field, their parity, and a loop over the bytes. Its invariant:
 -- the bytes passed hold their eight bits.
-use mathlib.Core.Path.{◌∙◌, sym, refl, ap}
 use Prim.Native.Nat.{◌-◌}
-use native.Mathlib.Omega.{arith}
-use lib.ListN.{length, get_or}
-use Rattle.laws.proofs.Filled.{Filled, filled_none, filled_more, filled_done}
-use Rattle.frame.specs.Frame.{sent, packed}
-use Rattle.frame.proofs.Answered.{parity_fits, parity_long, frame_is}
+use lib.ListN.{get_or}
+use Rattle.laws.proofs.Filled.{Filled}
+use Rattle.frame.specs.Frame.{sent}
 use Rattle.frame.proofs.Laws.{packed_byte}
-use Rattle.frame.proofs.Places.{length_entries}
 use Rattle.packer.proofs.frame_of.Given as goal
 
 abbrev pub invariant-loop-k : goal.invariant-loop-k

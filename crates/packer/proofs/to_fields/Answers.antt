@@ -1,10 +1,7 @@
 use mathlib.Core.Path.{◌≡◌}
-use mathlib.Core.List.{◌∷◌}
-use Prim.Native.Nat.{◌+◌, ◌-◌}
 use native.Mathlib.Omega.{arith}
 use borrow.Author.Rules.{rules}
 use lib.ListN.{length}
-use Rattle.laws.proofs.Filled.{Copied}
 use Rattle.frame.proofs.Listed.{laid_none, laid_more, laid_whole}
 use Rattle.packer.proofs.to_fields.Goals as goal
 

@@ -1,12 +1,7 @@
 -- `packer::to_fields` meets its contract. The loop's invariant: the fields passed hold their indices.
-use mathlib.Core.Path.{◌≡◌}
 use mathlib.Core.List.{◌∷◌}
 use Prim.Native.Nat.{◌+◌, ◌-◌}
-use native.Mathlib.Omega.{arith}
-use borrow.Author.Rules.{rules}
-use lib.ListN.{length}
 use Rattle.laws.proofs.Filled.{Copied}
-use Rattle.frame.proofs.Listed.{laid_none, laid_more, laid_whole}
 use Rattle.packer.proofs.to_fields.Given as goal
 
 abbrev pub invariant-loop-k : goal.invariant-loop-k

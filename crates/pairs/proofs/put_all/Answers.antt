@@ -1,7 +1,5 @@
-use Prim.Native.Nat.{◌-◌, ◌*◌}
-use native.Mathlib.Omega.{arith}
 use Rattle.laws.proofs.Filled.{filled_none}
-use Rattle.pairs.proofs.Pairs.{Put, put_next, put_whole}
+use Rattle.pairs.proofs.Pairs.{put_next, put_whole}
 use Rattle.pairs.proofs.put_all.Goals as goal
 
 pub loop-k-init : goal.loop-k-init

@@ -1,8 +1,6 @@
 -- `pairs::put_all` meets its contract. The loop's invariant: the bytes passed are the record's.
 use Prim.Native.Nat.{◌-◌, ◌*◌}
-use native.Mathlib.Omega.{arith}
-use Rattle.laws.proofs.Filled.{filled_none}
-use Rattle.pairs.proofs.Pairs.{Put, put_next, put_whole}
+use Rattle.pairs.proofs.Pairs.{Put}
 use Rattle.pairs.proofs.put_all.Given as goal
 
 abbrev pub invariant-loop-k : goal.invariant-loop-k

@@ -1,8 +1,6 @@
 use mathlib.Core.Path.{refl}
-use Prim.Native.Nat.{◌-◌}
-use native.Mathlib.Omega.{arith}
 use Rattle.laws.proofs.Filled.{filled_none}
-use Rattle.pairs.proofs.Pairs.{TakenLsp, TakenSubframes, take_lsp, take_subframe, take_whole}
+use Rattle.pairs.proofs.Pairs.{take_lsp, take_subframe, take_whole}
 use Rattle.pairs.proofs.take_all.Goals as goal
 
 pub loop-k-init : goal.loop-k-init

@@ -1,9 +1,6 @@
 -- `pairs::take_all` meets its contract. The loops' invariants: the places passed hold the indices of their fields.
-use mathlib.Core.Path.{refl}
 use Prim.Native.Nat.{◌-◌}
-use native.Mathlib.Omega.{arith}
-use Rattle.laws.proofs.Filled.{filled_none}
-use Rattle.pairs.proofs.Pairs.{TakenLsp, TakenSubframes, take_lsp, take_subframe, take_whole}
+use Rattle.pairs.proofs.Pairs.{TakenLsp, TakenSubframes}
 use Rattle.pairs.proofs.take_all.Given as goal
 
 abbrev pub invariant-loop-k : goal.invariant-loop-k

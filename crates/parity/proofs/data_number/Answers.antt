@@ -1,8 +1,7 @@
-use Prim.Native.Nat.{◌-◌}
 use native.Mathlib.Omega.{arith}
-use Rattle.laws.proofs.Lowest.{NoneUpTo, none_yet, none_more}
+use Rattle.laws.proofs.Lowest.{none_yet, none_more}
 use Rattle.frame.proofs.Number.{next_field}
-use Rattle.frame.proofs.Corrections.{no_data_number, here, other_field, other_bit, this_bit, data_found, data_none}
+use Rattle.frame.proofs.Corrections.{no_data_number, other_field, other_bit, this_bit, data_found, data_none}
 use Rattle.parity.proofs.data_number.Goals as goal
 
 pub returns-then-f-eq0 : goal.returns-then-f-eq0

@@ -1,6 +1,5 @@
 -- `parity::mend` meets its contract: the correction is one of its cases.
 use mathlib.Core.Path.{◌∙◌, sym, ap}
-use borrow.Author.Rules.{rules}
 use Rattle.frame.specs.Steps.{mended_fields}
 use Rattle.parity.proofs.mend.Goals as goal
 

@@ -1,6 +1,5 @@
 -- `parity::number_for` meets its contract: the correction is one of its cases.
 use mathlib.Core.Path.{◌∙◌, sym, ap}
-use borrow.Author.Rules.{rules}
 use Rattle.frame.specs.Correction.{number_of_case}
 use Rattle.parity.proofs.number_for.Goals as goal
 

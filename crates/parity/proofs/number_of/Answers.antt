@@ -1,6 +1,5 @@
-use Prim.Native.Nat.{◌-◌}
 use native.Mathlib.Omega.{arith}
-use Rattle.frame.proofs.Number.{Summed, summed_none, summed_more, summed_all, taken_room, next_guarded}
+use Rattle.frame.proofs.Number.{summed_none, summed_more, summed_all, taken_room, next_guarded}
 use Rattle.frame.proofs.Number.{next_field}
 use Rattle.parity.proofs.number_of.Goals as goal
 

@@ -1,4 +1,3 @@
-use borrow.Author.Rules.{rules}
 use Rattle.passes.proofs.Passes.{start_sound, start_refused}
 use Rattle.passes.proofs.start.Goals as goal
 

@@ -1,6 +1,6 @@
 -- `player::oatlantern_excite` meets its contract: what the excitation came to, and the register after it.
 use mathlib.Core.Path.{ap, ◌∙◌}
-use borrow.Author.Rules.{rules, sfits_of}
+use borrow.Author.Rules.{sfits_of}
 use mir.Facts.{to_z-of_z}
 use mir.Syntax.{w32}
 use Rattle.excitation.specs.declared.Excited.{Excited}

@@ -1,10 +1,8 @@
 use mathlib.Core.Path.{◌∙◌, sym, ap}
-use Prim.Native.Nat.{◌+◌, ◌-◌, ◌*◌, ◌/◌, ◌≤◌, ◌<◌}
 use native.Mathlib.Omega.{arith}
-use lib.ListN.{length, get_or}
-use Rattle.frame.specs.Frame.{bit_at}
+use lib.ListN.{length}
 use Rattle.frame.proofs.Places.{length_entries}
-use Rattle.frame.proofs.Gathered.{Gathered, bit_at_small, gathered_from, gathered_is, indices_long, turn}
+use Rattle.frame.proofs.Gathered.{gathered_from, gathered_is, indices_long, turn}
 use Rattle.frame.proofs.Gathered.{turn_field, turn_room, byte_begun, byte_done}
 use Rattle.reader.proofs.add_byte.Goals as goal
 

@@ -1,12 +1,7 @@
 -- `reader::add_byte` meets its contract. The loop's invariant: each field holds what the places passed give it.
-use mathlib.Core.Path.{◌∙◌, sym, ap}
-use Prim.Native.Nat.{◌+◌, ◌-◌, ◌*◌, ◌/◌, ◌≤◌, ◌<◌}
-use native.Mathlib.Omega.{arith}
-use lib.ListN.{length, get_or}
+use Prim.Native.Nat.{◌+◌, ◌-◌, ◌*◌, ◌≤◌}
 use Rattle.frame.specs.Frame.{bit_at}
-use Rattle.frame.proofs.Places.{length_entries}
-use Rattle.frame.proofs.Gathered.{Gathered, bit_at_small, gathered_from, gathered_is, indices_long, turn}
-use Rattle.frame.proofs.Gathered.{turn_field, turn_room, byte_begun, byte_done}
+use Rattle.frame.proofs.Gathered.{Gathered, bit_at_small}
 use Rattle.reader.proofs.add_byte.Given as goal
 
 abbrev pub invariant-loop-q : goal.invariant-loop-q

@@ -1,9 +1,7 @@
-use mathlib.Core.Path.{◌≡◌, ◌∙◌, sym, ap}
-use Prim.Native.Nat.{◌-◌, ◌*◌, ◌≤◌}
+use mathlib.Core.Path.{◌∙◌, sym, ap}
 use native.Mathlib.Omega.{arith}
 use lib.ListN.{length}
 use Rattle.frame.specs.Frame.{bit_at}
-use Rattle.frame.specs.Steps.{indices_up_to}
 use Rattle.frame.proofs.Places.{length_entries}
 use Rattle.frame.proofs.Gathered.{bit_at_small, indices_long, indices_none, indices_all}
 use Rattle.reader.proofs.gather.Goals as goal

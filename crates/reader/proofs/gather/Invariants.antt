@@ -1,12 +1,8 @@
 -- `reader::gather` meets its contract. The loop's invariant: the list holds what the bytes passed give each field.
-use mathlib.Core.Path.{◌≡◌, ◌∙◌, sym, ap}
+use mathlib.Core.Path.{◌≡◌}
 use Prim.Native.Nat.{◌-◌, ◌*◌, ◌≤◌}
-use native.Mathlib.Omega.{arith}
-use lib.ListN.{length}
 use Rattle.frame.specs.Frame.{bit_at}
 use Rattle.frame.specs.Steps.{indices_up_to}
-use Rattle.frame.proofs.Places.{length_entries}
-use Rattle.frame.proofs.Gathered.{bit_at_small, indices_long, indices_none, indices_all}
 use Rattle.reader.proofs.gather.Given as goal
 
 abbrev pub invariant-loop-n : goal.invariant-loop-n

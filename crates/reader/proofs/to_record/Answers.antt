@@ -1,8 +1,7 @@
 use mathlib.Core.Path.{refl}
-use Prim.Native.Nat.{◌-◌}
 use native.Mathlib.Omega.{arith}
 use Rattle.laws.proofs.Filled.{filled_none, filled_more}
-use Rattle.frame.proofs.Listed.{TakenLsp, TakenSubframes, taken_whole}
+use Rattle.frame.proofs.Listed.{taken_whole}
 use Rattle.reader.proofs.to_record.Goals as goal
 
 pub loop-k-init : goal.loop-k-init

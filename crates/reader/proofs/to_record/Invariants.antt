@@ -1,9 +1,6 @@
 -- `reader::to_record` meets its contract. The loops' invariants: the places passed hold the indices of their fields.
-use mathlib.Core.Path.{refl}
 use Prim.Native.Nat.{◌-◌}
-use native.Mathlib.Omega.{arith}
-use Rattle.laws.proofs.Filled.{filled_none, filled_more}
-use Rattle.frame.proofs.Listed.{TakenLsp, TakenSubframes, taken_whole}
+use Rattle.frame.proofs.Listed.{TakenLsp, TakenSubframes}
 use Rattle.reader.proofs.to_record.Given as goal
 
 abbrev pub invariant-loop-k : goal.invariant-loop-k

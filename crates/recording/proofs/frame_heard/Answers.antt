@@ -1,4 +1,3 @@
-use native.Mathlib.Omega.{arith}
 use Rattle.recording.proofs.Judging.{sought_none, sought}
 use Rattle.recording.proofs.frame_heard.Goals as goal
 

@@ -1,4 +1,3 @@
-use borrow.Author.Rules.{rules}
 use Rattle.passes.proofs.Through.{sound_walk}
 use Rattle.recording.proofs.Judging.{judge_refused, judge_sound}
 use Rattle.laws.proofs.Clauses.{clauses}

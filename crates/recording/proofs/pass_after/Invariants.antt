@@ -1,5 +1,4 @@
-use native.Mathlib.Omega.{arith}
-use Rattle.passes.proofs.Through.{Going, going_start, going_on, going_stays, going_done}
+use Rattle.passes.proofs.Through.{Going}
 use Rattle.recording.proofs.pass_after.Given as goal
 
 abbrev pub invariant-loop-ahead : goal.invariant-loop-ahead

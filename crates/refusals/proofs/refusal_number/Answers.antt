@@ -1,5 +1,4 @@
 use mathlib.Core.Path.{sym, ap}
-use borrow.Author.Rules.{rules}
 use Rattle.blocks.specs.Refusals.{refusal_of}
 use Rattle.refusals.proofs.refusal_number.Goals as goal
 

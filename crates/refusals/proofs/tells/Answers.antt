@@ -1,5 +1,4 @@
 use mathlib.Core.Path.{sym, ap}
-use borrow.Author.Rules.{rules}
 use Rattle.blocks.specs.Refusals.{told_of}
 use Rattle.refusals.proofs.tells.Goals as goal
 

@@ -1,6 +1,5 @@
 use native.Mathlib.Omega.{arith}
 use lib.ListN.{length-take, length-drop}
-use borrow.Author.Rules.{rules}
 use Rattle.text.proofs.Laid.{put_length}
 use Rattle.restorer.proofs.Puts.{rest_none, rest_put, rest_within}
 use Rattle.laws.proofs.Clauses.{clauses}

@@ -1,5 +1,4 @@
 use native.Mathlib.Omega.{arith}
-use borrow.Author.Rules.{rules}
 use Rattle.text.proofs.Laid.{put_length}
 use Rattle.restorer.proofs.Puts.{voice_put}
 use Rattle.laws.proofs.Clauses.{clauses}

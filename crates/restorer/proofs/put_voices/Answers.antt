@@ -1,8 +1,7 @@
 use mathlib.Core.Path.{◌∙◌, sym}
 use native.Mathlib.Omega.{arith}
 use lib.ListN.{length-take, length-drop}
-use borrow.Author.Rules.{rules}
-use Rattle.restorer.proofs.Puts.{found_voice, Laying, laying_start, laying_done, laying_none, laying_on}
+use Rattle.restorer.proofs.Puts.{found_voice, laying_start, laying_done, laying_none, laying_on}
 use Rattle.laws.proofs.Clauses.{clauses}
 use Rattle.restorer.proofs.put_voices.Goals as goal
 

@@ -1,8 +1,4 @@
-use mathlib.Core.Path.{◌∙◌, sym}
-use native.Mathlib.Omega.{arith}
-use lib.ListN.{length-take, length-drop}
-use borrow.Author.Rules.{rules}
-use Rattle.restorer.proofs.Puts.{found_voice, Laying, laying_start, laying_done, laying_none, laying_on}
+use Rattle.restorer.proofs.Puts.{Laying}
 use Rattle.restorer.proofs.put_voices.Given as goal
 
 abbrev pub invariant-loop-left : goal.invariant-loop-left

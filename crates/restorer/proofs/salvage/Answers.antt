@@ -1,7 +1,6 @@
 use mathlib.Core.Path.{◌∙◌, sym, ap, refl}
 use native.Mathlib.Omega.{arith}
 use lib.ListN.{length}
-use borrow.Author.Rules.{rules}
 use Rattle.text.proofs.Laid.{length_laid}
 use Rattle.salvage.proofs.Results.{planned, plan_reach, end_within, end_is, buffer_is, answer_is, refused_is}
 use Rattle.salvage.proofs.Results.{buffer_stays}

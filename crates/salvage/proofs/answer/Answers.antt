@@ -1,4 +1,3 @@
-use borrow.Author.Rules.{rules}
 use Rattle.salvage.proofs.Returns.{answer_sound, answer_mended}
 use Rattle.salvage.proofs.answer.Goals as goal
 

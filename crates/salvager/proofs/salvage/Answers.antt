@@ -1,6 +1,5 @@
 -- `salvager::salvage` is safe: the result is within its buffer.
 use mathlib.Core.Path.{sym}
-use borrow.Author.Rules.{rules}
 use lib.Seq.{length-take-le}
 use Rattle.salvage.proofs.Results.{result_within}
 use Rattle.salvager.proofs.salvage.Goals as goal

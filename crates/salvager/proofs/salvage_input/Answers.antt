@@ -1,5 +1,4 @@
 -- `salvager::salvage_input` is safe: the bytes read are within their buffer.
-use borrow.Author.Rules.{rules}
 use Rattle.input.proofs.Laws.{read_within, read_long}
 use Rattle.salvager.proofs.salvage_input.Goals as goal
 

@@ -1,6 +1,5 @@
 -- `salvager::tell` is safe: the lines laid are within their buffer.
 use mathlib.Core.Path.{sym}
-use borrow.Author.Rules.{rules}
 use lib.Seq.{length-take-le}
 use Rattle.text.proofs.Laid.{put_within}
 use Rattle.salvager.proofs.tell.Goals as goal

@@ -1,5 +1,4 @@
 -- `sheet::main` is safe: the bytes read are within their buffer.
-use Rattle.std.proofs.Common.{rules}
 use Rattle.input.proofs.Laws.{read_within, read_long}
 use Rattle.sheet.proofs.main.Goals as goal
 

@@ -1,5 +1,5 @@
 -- `sheet::run` is safe, and ends: each call moves the place on, and stays within the bytes.
-use Rattle.std.proofs.Common.{◌-◌, ◌≤◌, length, arith}
+use Rattle.std.proofs.Common.{◌-◌, ◌≤◌, length}
 use Rattle.sheet.proofs.run.Given as goal
 
 abbrev pub invariant-loop-at : goal.invariant-loop-at

@@ -1,5 +1,4 @@
 use mathlib.Core.Path.{sym, ap}
-use borrow.Author.Rules.{rules}
 use Rattle.passes.specs.Counted.{breaks_at}
 use Rattle.steps.proofs.breaks_at.Goals as goal
 

@@ -1,4 +1,3 @@
-use borrow.Author.Rules.{rules}
 use native.Mathlib.Omega.{arith}
 use Rattle.passes.proofs.Counting.{repair_small, break_small, counted}
 use Rattle.steps.proofs.counted.Goals as goal

@@ -1,4 +1,3 @@
-use borrow.Author.Rules.{rules}
 use Rattle.passes.proofs.Passes.{next_by}
 use mathlib.Core.Path.{◌∙◌, sym}
 use Rattle.steps.proofs.next.Goals as goal

@@ -1,4 +1,3 @@
-use borrow.Author.Rules.{rules}
 use Rattle.passes.proofs.Counting.{repair_told}
 use Rattle.steps.proofs.repair_by.Goals as goal
 

@@ -1,4 +1,3 @@
-use native.Mathlib.Omega.{arith}
 use Rattle.passes.proofs.Passes.{stayed}
 use Rattle.steps.proofs.stay.Goals as goal
 

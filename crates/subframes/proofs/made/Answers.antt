@@ -1,6 +1,4 @@
-use mathlib.Core.Path.{◌≡◌, ◌∙◌, refl, ap}
-use Prim.Native.Nat.{◌-◌}
-use native.Mathlib.Omega.{arith}
+use mathlib.Core.Path.{◌∙◌, ap}
 use lib.ListN.{length}
 use Rattle.excitation.proofs.Laws.{left_length}
 use Rattle.subframes.proofs.made.Goals as goal

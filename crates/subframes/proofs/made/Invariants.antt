@@ -1,9 +1,7 @@
 -- `subframes::made` is safe and ends: the buffer keeps its length from turn to turn.
-use mathlib.Core.Path.{◌≡◌, ◌∙◌, refl, ap}
+use mathlib.Core.Path.{◌≡◌}
 use Prim.Native.Nat.{◌-◌}
-use native.Mathlib.Omega.{arith}
 use lib.ListN.{length}
-use Rattle.excitation.proofs.Laws.{left_length}
 use Rattle.subframes.proofs.made.Given as goal
 
 abbrev pub invariant-loop-k : goal.invariant-loop-k

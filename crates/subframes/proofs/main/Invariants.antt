@@ -1,5 +1,4 @@
 -- `subframes::main` is safe and ends: the turns that are left grow fewer.
-use native.Mathlib.Omega.{arith}
 use Rattle.subframes.proofs.main.Given as goal
 
 abbrev pub invariant-loop-turns : goal.invariant-loop-turns

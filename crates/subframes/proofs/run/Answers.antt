@@ -1,7 +1,6 @@
 -- `subframes::run` is safe: what is lent is within the room.
 use mathlib.Core.Path.{sym}
 use native.Mathlib.Omega.{arith}
-use borrow.Author.Rules.{rules}
 use lib.Seq.{length-take-le}
 use Rattle.subframes.proofs.run.Goals as goal
 

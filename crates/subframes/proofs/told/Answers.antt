@@ -1,6 +1,5 @@
 -- `subframes::told` is safe: the line laid is within its buffer.
 use mathlib.Core.Path.{sym}
-use borrow.Author.Rules.{rules}
 use lib.Seq.{length-take-le}
 use Rattle.text.proofs.Laid.{put_within}
 use Rattle.subframes.proofs.told.Goals as goal

@@ -1,6 +1,5 @@
 -- `tally::clear` meets its contract.
 use mathlib.Core.Path.{refl}
-use borrow.Author.Rules.{rules}
 use Rattle.tally.specs.Book.{emptied}
 use Rattle.tally.proofs.clear.Goals as goal
 

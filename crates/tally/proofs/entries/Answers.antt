@@ -1,6 +1,5 @@
 -- `tally::entries` meets its contract.
 use native.Mathlib.Omega.{arith}
-use borrow.Author.Rules.{rules}
 use Rattle.tally.proofs.Rows.{entries_told, entries_most}
 use Rattle.tally.proofs.entries.Goals as goal
 

@@ -1,8 +1,5 @@
-use mathlib.Core.Logic.{⊎_elim}
-use Prim.Native.Nat.{◌-◌}
 use native.Mathlib.Omega.{arith}
-use borrow.Author.Rules.{rules}
-use Rattle.tally.proofs.Rows.{Summing, summing, summed_own, summed_other, summed_all}
+use Rattle.tally.proofs.Rows.{summing, summed_own, summed_other, summed_all}
 use Rattle.tally.proofs.total.Goals as goal
 use Rattle.tally.proofs.total.Goals.{then-book-owner_at, else-book-owner_at}
 
@@ -13,8 +10,8 @@ pub loop-i-preserved : goal.loop-i-preserved
 loop-i-preserved c =
     let a = c.loop-i.invariant in
     elim c.if-book-owner_at.branch [
-      then-book-owner_at w ↦ summed_own a (omega arith) (omega arith) w.wide-sum.ensures.value w.wide-sum.ensures.upper_bound w.sum-is
-    | else-book-owner_at w ↦ summed_other a (omega arith) (λ q. omega arith) w.sum-is
+      | then-book-owner_at w ↦ summed_own a (omega arith) (omega arith) w.wide-sum.ensures.value w.wide-sum.ensures.upper_bound w.sum-is
+      | else-book-owner_at w ↦ summed_other a (omega arith) (λ q. omega arith) w.sum-is
     ]
 
 pub returns : goal.returns

@@ -1,7 +1,5 @@
-use Prim.Native.Nat.{◌-◌}
 use native.Mathlib.Omega.{arith}
-use borrow.Author.Rules.{rules}
-use Rattle.text.proofs.Turns.{past, Words, word_none, word_more, word_all, word_length}
+use Rattle.text.proofs.Turns.{past, word_none, word_more, word_all, word_length}
 use Rattle.text.proofs.put_word.Goals as goal
 
 pub returns-then-long-at : goal.returns-then-long-at

@@ -1,6 +1,5 @@
 -- `verdicts::minus` meets its contract.
 use native.Mathlib.Omega.{arith}
-use borrow.Author.Rules.{rules}
 use Rattle.verdicts.proofs.Negated.{minus_fits, minus_is, minus_large}
 use Rattle.verdicts.proofs.minus.Goals as goal
 

@@ -1,6 +1,6 @@
 -- `verdicts::tell` meets its contract: a refused recording, and a sound one.
 use mathlib.Core.Path.{◌∙◌}
-use borrow.Author.Rules.{rules, sfits_of}
+use borrow.Author.Rules.{sfits_of}
 use mir.Facts.{to_z-of_z}
 use mir.Syntax.{w32}
 use Rattle.verdicts.proofs.Told.{was_refused, was_sound}

@@ -1,5 +1,4 @@
 -- `verdicts::told_of` meets its contract.
-use borrow.Author.Rules.{rules}
 use Rattle.verdicts.proofs.Told.{told_by}
 use Rattle.verdicts.proofs.told_of.Goals as goal
 

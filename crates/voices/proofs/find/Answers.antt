@@ -1,7 +1,6 @@
 use native.Mathlib.Omega.{arith}
 use Rattle.blocks.proofs.Voices.{voice_sized}
 use Rattle.blocks.proofs.Frames.{no_voice, first_frame, too_few_left, too_short, next_frame}
-use borrow.Author.Rules.{rules}
 use Rattle.voices.proofs.find.Goals as goal
 
 pub returns-then-size-eq0 : goal.returns-then-size-eq0

@@ -1,8 +1,5 @@
-use Prim.Native.Nat.{◌-◌}
 use native.Mathlib.Omega.{arith}
-use lib.ListN.{length}
-use borrow.Author.Rules.{rules}
-use Rattle.blocks.proofs.Voices.{voice_sized, Seeking, seeking_start, seeking_none, seeking_found, seeking_on}
+use Rattle.blocks.proofs.Voices.{voice_sized, seeking_start, seeking_none, seeking_found, seeking_on}
 use Rattle.voices.proofs.span_from.Goals as goal
 
 pub loop-voices-init : goal.loop-voices-init

@@ -1,8 +1,6 @@
 use Prim.Native.Nat.{◌-◌}
-use native.Mathlib.Omega.{arith}
 use lib.ListN.{length}
-use borrow.Author.Rules.{rules}
-use Rattle.blocks.proofs.Voices.{voice_sized, Seeking, seeking_start, seeking_none, seeking_found, seeking_on}
+use Rattle.blocks.proofs.Voices.{Seeking}
 use Rattle.voices.proofs.span_from.Given as goal
 
 abbrev pub invariant-loop-voices : goal.invariant-loop-voices

@@ -1,5 +1,4 @@
-use mathlib.Core.Path.{refl, ap}
-use borrow.Author.Rules.{rules}
+use mathlib.Core.Path.{ap}
 use Rattle.blocks.specs.Frames.{bytes_on}
 use Rattle.blocks.specs.declared.Span.{Span}
 use Rattle.blocks.proofs.Voices.{told_placed, told_bytes}

@@ -1,5 +1,4 @@
 use mathlib.Core.Path.{◌∙◌, sym}
-use borrow.Author.Rules.{rules}
 use Rattle.blocks.proofs.Voices.{head_no_voice, voice_itself, end_no_voice, broken_no_voice}
 use Rattle.voices.proofs.voice_size.Goals as goal
 

@@ -1,5 +1,4 @@
 use mathlib.Core.Path.{◌∙◌}
-use borrow.Author.Rules.{rules}
 use Rattle.blocks.proofs.Voices.{span_refused, span_sound}
 use Rattle.voices.proofs.voice_span.Goals as goal
 

@@ -1,6 +1,5 @@
 use mathlib.Core.Path.{◌∙◌, sym}
 use native.Mathlib.Omega.{arith}
-use borrow.Author.Rules.{rules}
 use Rattle.blocks.proofs.Blocks.{head_held, voice_held, end_held}
 use Rattle.blocks.proofs.Walks.{step_met}
 use Rattle.walk.proofs.advance.Goals as goal

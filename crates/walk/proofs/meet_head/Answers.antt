@@ -1,6 +1,5 @@
 use mathlib.Core.Path.{◌∙◌}
 use native.Mathlib.Omega.{arith}
-use borrow.Author.Rules.{rules}
 use Rattle.blocks.proofs.Walks.{second_head, first_head}
 use Rattle.walk.proofs.meet_head.Goals as goal
 

@@ -1,6 +1,5 @@
 use mathlib.Core.Path.{◌∙◌}
 use native.Mathlib.Omega.{arith}
-use borrow.Author.Rules.{rules}
 use Rattle.blocks.proofs.Walks.{voice_first, voice_passed}
 use Rattle.walk.proofs.meet_voice.Goals as goal
 

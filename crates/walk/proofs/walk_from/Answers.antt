@@ -1,9 +1,6 @@
 use mathlib.Core.Path.{◌∙◌, sym}
-use Prim.Native.Nat.{◌-◌}
 use native.Mathlib.Omega.{arith}
-use lib.ListN.{length}
-use borrow.Author.Rules.{rules}
-use Rattle.blocks.proofs.Walks.{Walking, walking_start, walking_on, walking_done, step_further}
+use Rattle.blocks.proofs.Walks.{walking_start, walking_on, walking_done, step_further}
 use Rattle.walk.proofs.walk_from.Goals as goal
 
 pub loop-next-init : goal.loop-next-init

@@ -1,9 +1,6 @@
-use mathlib.Core.Path.{◌∙◌, sym}
 use Prim.Native.Nat.{◌-◌}
-use native.Mathlib.Omega.{arith}
 use lib.ListN.{length}
-use borrow.Author.Rules.{rules}
-use Rattle.blocks.proofs.Walks.{Walking, walking_start, walking_on, walking_done, step_further}
+use Rattle.blocks.proofs.Walks.{Walking}
 use Rattle.walk.proofs.walk_from.Given as goal
 
 abbrev pub invariant-loop-next : goal.invariant-loop-next

@@ -1,9 +1,8 @@
 use mathlib.Core.Path.{◌≡◌, ◌∙◌, sym, refl}
-use Prim.Native.Nat.{◌-◌}
 use native.Mathlib.Omega.{arith}
 use borrow.Author.Rules.{rules}
 use lib.ListN.{length}
-use Rattle.laws.proofs.Filled.{Copied, copied_none, copied_more, copied_all}
+use Rattle.laws.proofs.Filled.{copied_none, copied_more, copied_all}
 use Rattle.writer.proofs.lay.Goals as goal
 
 pub loop-k-init : goal.loop-k-init

@@ -1,10 +1,6 @@
 -- `writer::lay` meets its contract: the bytes are copied one after the other.
-use mathlib.Core.Path.{◌≡◌, ◌∙◌, sym, refl}
 use Prim.Native.Nat.{◌-◌}
-use native.Mathlib.Omega.{arith}
-use borrow.Author.Rules.{rules}
-use lib.ListN.{length}
-use Rattle.laws.proofs.Filled.{Copied, copied_none, copied_more, copied_all}
+use Rattle.laws.proofs.Filled.{Copied}
 use Rattle.writer.proofs.lay.Given as goal
 
 abbrev pub invariant-loop-k : goal.invariant-loop-k

@@ -1,8 +1,5 @@
 -- `writer::write` meets its contract: the refusals in their order, then the frame.
-use mathlib.Core.Path.{◌≡◌, ◌∙◌, sym}
-use borrow.Author.Rules.{rules}
-use Rattle.record.specs.Fields.{too_large_field}
-use Rattle.frame.specs.Answers.{record_mark}
+use mathlib.Core.Path.{◌∙◌, sym}
 use Rattle.frame.proofs.Answered.{wrong_length, too_large, falling, expansion, accepted, answered, laid}
 use Rattle.laws.proofs.Clauses.{clauses}
 use Rattle.writer.proofs.write.Goals as goal

@@ -1,6 +1,5 @@
 -- `draws::Generator::draw` meets its contract.
 use Rattle.draws.proofs.Drawing.{drawn}
-use Rattle.std.proofs.Common.{arith}
 use Rattle.draws.proofs.Generator.draw.Goals as goal
 
 pub returns : goal.returns

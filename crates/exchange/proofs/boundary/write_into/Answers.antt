@@ -1,7 +1,6 @@
 -- `exchange::boundary::write_into` is safe: the part lent is as long as it is cut.
 use mathlib.Core.Path.{sym}
 use native.Mathlib.Omega.{arith}
-use borrow.Author.Rules.{rules}
 use lib.Seq.{length-take-le}
 use Rattle.exchange.proofs.boundary.write_into.Goals as goal
 

@@ -1,6 +1,5 @@
 -- `exchange::corrections::taken` is safe and ends: the numbers that are left grow fewer.
 use Prim.Native.Nat.{◌-◌}
-use native.Mathlib.Omega.{arith}
 use Rattle.exchange.proofs.corrections.taken.Given as goal
 
 abbrev pub invariant-loop-k : goal.invariant-loop-k

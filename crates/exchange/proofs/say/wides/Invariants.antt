@@ -1,7 +1,5 @@
 -- `exchange::say::wides` is safe and ends: nothing has to hold from turn to turn.
 use Prim.Native.Nat.{◌-◌}
-use native.Mathlib.Omega.{arith}
-use borrow.Author.Rules.{rules}
 use lib.ListN.{length}
 use Rattle.exchange.proofs.say.wides.Given as goal
 

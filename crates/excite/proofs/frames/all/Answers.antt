@@ -1,13 +1,12 @@
 use mathlib.Core.Path.{◌≡◌, ◌∙◌, sym, ap}
 use mathlib.Core.Bool.{true≢false}
-use Prim.Native.Nat.{◌-◌, ◌≤◌}
 use native.Mathlib.Omega.{arith}
 use borrow.Author.Tests.{not-false}
 use Rattle.values.specs.declared.State.{State}
 use Rattle.blocks.specs.Frames.{frames_of}
 use Rattle.passes.specs.Pass.{start_of}
 use Rattle.excite.specs.Running.{register_after}
-use Rattle.excite.proofs.Runs.{After, after_none, after_more}
+use Rattle.excite.proofs.Runs.{after_none, after_more}
 use Rattle.excite.proofs.frames.all.Goals as goal
 
 pub loop-k-init : goal.loop-k-init
@@ -22,12 +21,11 @@ pub returns-then-not-told : goal.returns-then-not-told
 returns-then-not-told c e = absurd (true≢false (sym e))
 
 pub loop-k-preserved : goal.loop-k-preserved
-loop-k-preserved c =
-    (
-      omega arith,
-      after_more c.loop-k.invariant.1 c.next-step.ensures
-          (c.one-told.ensures (not-false c.one-told.result.written c.if-not-told.false)),
-    )
+loop-k-preserved c = (
+  omega arith,
+  after_more c.loop-k.invariant.1 c.next-step.ensures
+      (c.one-told.ensures (not-false c.one-told.result.written c.if-not-told.false)),
+)
 
 pub returns : goal.returns
 returns c e =

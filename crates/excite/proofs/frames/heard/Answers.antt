@@ -1,8 +1,6 @@
 use mathlib.Core.Path.{sym}
 use mathlib.Core.Bool.{true≢false}
-use Prim.Native.Nat.{◌-◌}
-use native.Mathlib.Omega.{arith}
-use Rattle.excite.proofs.Runs.{Within, within_none, within_more, within_all}
+use Rattle.excite.proofs.Runs.{within_none, within_more, within_all}
 use Rattle.excite.proofs.frames.heard.Goals as goal
 
 pub loop-n-init : goal.loop-n-init

@@ -1,6 +1,5 @@
 -- `excite::frames::subframe` meets its contract: the register is the one that the excitation leaves.
 use mathlib.Core.Path.{ap}
-use borrow.Author.Rules.{rules}
 use Rattle.excitation.specs.declared.Excited.{Excited}
 use Rattle.excite.proofs.frames.subframe.Goals as goal
 

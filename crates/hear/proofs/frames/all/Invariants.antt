@@ -1,7 +1,5 @@
 -- `hear::frames::all` is safe and ends: nothing has to hold from frame to frame.
 use Prim.Native.Nat.{◌-◌}
-use native.Mathlib.Omega.{arith}
-use borrow.Author.Rules.{rules}
 use Rattle.hear.proofs.frames.all.Given as goal
 
 abbrev pub invariant-loop-k : goal.invariant-loop-k

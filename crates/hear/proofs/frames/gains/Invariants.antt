@@ -1,7 +1,5 @@
 -- `hear::frames::gains` is safe and ends: nothing has to hold from turn to turn.
 use Prim.Native.Nat.{◌-◌}
-use native.Mathlib.Omega.{arith}
-use borrow.Author.Rules.{rules}
 use Rattle.hear.proofs.frames.gains.Given as goal
 
 abbrev pub invariant-loop-n : goal.invariant-loop-n

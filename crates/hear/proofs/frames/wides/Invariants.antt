@@ -1,7 +1,5 @@
 -- `hear::frames::wides` is safe and ends: nothing has to hold from turn to turn.
 use Prim.Native.Nat.{◌-◌}
-use native.Mathlib.Omega.{arith}
-use borrow.Author.Rules.{rules}
 use lib.ListN.{length}
 use Rattle.hear.proofs.frames.wides.Given as goal
 

@@ -1,7 +1,6 @@
 -- `hear::line::put_line` is safe: the position after the line lies within the buffer, whose length stays.
 use mathlib.Core.Path.{◌∙◌, ap}
 use native.Mathlib.Omega.{arith}
-use borrow.Author.Rules.{rules}
 use lib.ListN.{length, length-take}
 use Rattle.text.proofs.Laid.{length_laid}
 use Rattle.hear.proofs.line.put_line.Goals as goal

@@ -1,7 +1,6 @@
 -- `hear::line::write_to` is safe: the position after the newline lies within the buffer, whose length stays.
 use mathlib.Core.Path.{◌∙◌, ap}
 use native.Mathlib.Omega.{arith}
-use borrow.Author.Rules.{rules}
 use lib.ListN.{length, length-take}
 use Rattle.text.proofs.Laid.{length_laid}
 use Rattle.hear.proofs.line.write_to.Goals as goal

@@ -1,5 +1,5 @@
 -- `leaves::case::ten` is safe and ends: nothing has to hold from turn to turn.
-use Rattle.std.proofs.Common.{◌-◌, arith}
+use Rattle.std.proofs.Common.{◌-◌}
 use Rattle.leaves.proofs.case.ten.Given as goal
 
 abbrev pub invariant-loop-i : goal.invariant-loop-i

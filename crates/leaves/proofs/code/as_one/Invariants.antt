@@ -1,5 +1,5 @@
 -- `leaves::code::as_one` is safe and ends: nothing has to hold from turn to turn.
-use Rattle.std.proofs.Common.{◌-◌, arith, rules}
+use Rattle.std.proofs.Common.{◌-◌}
 use Rattle.leaves.proofs.code.as_one.Given as goal
 
 abbrev pub invariant-loop-k : goal.invariant-loop-k

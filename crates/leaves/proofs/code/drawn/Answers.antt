@@ -1,4 +1,4 @@
-use Rattle.std.proofs.Common.{◌-◌, arith, w16, w32, SFits, rules}
+use Rattle.std.proofs.Common.{w16, w32, SFits, rules}
 use Rattle.laws.proofs.Held.{cast_fits}
 use Rattle.leaves.proofs.code.drawn.Goals as goal
 

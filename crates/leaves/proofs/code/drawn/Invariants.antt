@@ -1,6 +1,5 @@
 -- `leaves::code::drawn` is safe and ends: a number drawn goes into 32 bits.
-use Rattle.std.proofs.Common.{◌-◌, arith, w16, w32, SFits, rules}
-use Rattle.laws.proofs.Held.{cast_fits}
+use Rattle.std.proofs.Common.{◌-◌}
 use Rattle.leaves.proofs.code.drawn.Given as goal
 
 abbrev pub invariant-loop-k : goal.invariant-loop-k

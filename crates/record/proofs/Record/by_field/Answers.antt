@@ -1,8 +1,7 @@
 use mathlib.Core.Path.{refl}
-use Prim.Native.Nat.{◌+◌, ◌-◌}
 use native.Mathlib.Omega.{arith}
 use Rattle.laws.proofs.Filled.{filled_none}
-use Rattle.record.proofs.Listed.{Listed, listed_fewer, listed_lsp, listed_subframe, listed_whole}
+use Rattle.record.proofs.Listed.{listed_fewer, listed_lsp, listed_subframe, listed_whole}
 use Rattle.record.proofs.Record.by_field.Goals as goal
 
 pub loop-k-init : goal.loop-k-init

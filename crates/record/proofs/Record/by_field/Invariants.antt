@@ -1,9 +1,6 @@
 -- `record::Record::by_field` meets its contract. The loops' invariants: the fields passed are listed.
-use mathlib.Core.Path.{refl}
 use Prim.Native.Nat.{◌+◌, ◌-◌}
-use native.Mathlib.Omega.{arith}
-use Rattle.laws.proofs.Filled.{filled_none}
-use Rattle.record.proofs.Listed.{Listed, listed_fewer, listed_lsp, listed_subframe, listed_whole}
+use Rattle.record.proofs.Listed.{Listed}
 use Rattle.record.proofs.Record.by_field.Given as goal
 
 abbrev pub invariant-loop-k : goal.invariant-loop-k

@@ -1,6 +1,5 @@
-use Prim.Native.Nat.{◌-◌}
 use native.Mathlib.Omega.{arith}
-use Rattle.record.proofs.Fields.{Passed, none_passed, shift_small, one_passed, found_here, none_found_here}
+use Rattle.record.proofs.Fields.{none_passed, shift_small, one_passed, found_here, none_found_here}
 use Rattle.record.proofs.Fields.{as_record}
 use Rattle.record.proofs.Record.too_large.Goals as goal
 

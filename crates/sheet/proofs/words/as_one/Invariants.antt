@@ -1,5 +1,5 @@
 -- `sheet::words::as_one` is safe: it stays within the book.
-use Rattle.std.proofs.Common.{◌-◌, ◌≤◌, arith, rules}
+use Rattle.std.proofs.Common.{◌-◌, ◌≤◌}
 use Rattle.sheet.proofs.words.as_one.Given as goal
 
 abbrev pub invariant-loop-at : goal.invariant-loop-at

@@ -1,4 +1,4 @@
-use Rattle.std.proofs.Common.{◌-◌, ◌≤◌, arith, rules}
+use Rattle.std.proofs.Common.{arith}
 use Rattle.sheet.proofs.words.lay.Goals as goal
 
 pub loop-at-init : goal.loop-at-init

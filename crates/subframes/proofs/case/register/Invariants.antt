@@ -1,6 +1,5 @@
 -- `subframes::case::register` is safe and ends: nothing has to hold from turn to turn.
 use Prim.Native.Nat.{◌-◌}
-use native.Mathlib.Omega.{arith}
 use Rattle.subframes.proofs.case.register.Given as goal
 
 abbrev pub invariant-loop-i : goal.invariant-loop-i

@@ -1,6 +1,5 @@
 -- `subframes::case::signed` is safe: a number that is turned round has room in 32 bits.
 use native.Mathlib.Omega.{arith}
-use borrow.Author.Rules.{rules}
 use Prim.Native.Nat.{◌-◌, ◌<◌, ◌^◌}
 use mir.Syntax.{w32}
 use mir.Facts.{to_z_pos}

@@ -1,5 +1,4 @@
 use mathlib.Core.Path.{sym, ap}
-use borrow.Author.Rules.{rules}
 use Rattle.values.specs.Outcome.{refusal_of}
 use Rattle.values.proofs.Outcome.refusal_number.Goals as goal
 

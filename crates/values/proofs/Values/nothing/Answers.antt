@@ -1,5 +1,4 @@
 -- `values::Values::nothing` meets its contract.
-use native.Mathlib.Omega.{arith}
 use Rattle.values.specs.Values.{nothing_heard}
 use Rattle.values.proofs.Values.nothing.Goals as goal
 
