@@ -2,7 +2,6 @@
 use mathlib.Core.Path.{◌∙◌, sym, ap}
 use native.Mathlib.Omega.{arith}
 use lib.ListN.{length}
-use Rattle.excitation.specs.Outcome.{outcome_of}
 use Rattle.excitation.specs.declared.Outcome.TheVariants.{WrongLength, TooLarge, NotListed, NotWhole}
 use Rattle.excitation.proofs.Outcomes.{answered, stays, written_sixty}
 use Rattle.laws.proofs.Clauses.{clauses}

@@ -12,7 +12,7 @@ returns-then-large-ne0 c = refused _ c.too_large-large.ensures c.if-large-ne0.tr
 -- one computed test of all entries
 pub looked_up-hz-requires : goal.looked_up-hz-requires
 unfolding hz_table
-looked_up-hz-requires c = record { t = tt; indices_value = sym c.too_large-large.ensures ∙ c.if-large-ne0.false }
+looked_up-hz-requires c = record { printed = tt; indices_value = sym c.too_large-large.ensures ∙ c.if-large-ne0.false }
 
 pub returns : goal.returns
 returns c =
