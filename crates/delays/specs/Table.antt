@@ -3,7 +3,7 @@
 use Rattle.std.specs.Prelude.{cond, List, [], ◌∷◌, ℕ, ◌+◌, ◌-◌, ◌*◌, leb, get_or}
 use Rattle.laws.specs.Place.{place_in}
 
--- the delays in twelfths, in rising order; the printed.33 and .67 are 4 and 8 twelfths
+-- the delays in twelfths, in rising order; the printed .33 and .67 are 4 and 8 twelfths
 unfoldable pub delays : List ℕ
 delays =
     -- 20 to 25.67 in thirds

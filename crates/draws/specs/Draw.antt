@@ -12,7 +12,7 @@ fresh_generator =
 abbrev pub position_of : ℕ → ℕ
 position_of p = cond (p % 5 == 0) 5 (p % 5)
 
--- `k=k-1`, `if (k.le. 0) k=MAXTAP`
+-- `k=k-1`, `if (k .le. 0) k=MAXTAP`
 abbrev pub moved_of : ℕ → ℕ
 moved_of k = cond (nat_le (k - 1) 0) 5 (k - 1)
 
@@ -24,7 +24,7 @@ wrapped z = cond (int_lt z (negsuc 32767)) (z +ℤ pos 65536) (cond (int_lt (pos
 abbrev pub kept_at : Generator → ℕ → ℤ
 kept_at g k = slice_index_or g.kept (k - 1) (pos 0)
 
--- `temp=iand(y(k)+y(j), 65535)`, `if (temp.gt. 32767) temp=temp-65536`
+-- `temp=iand(y(k)+y(j), 65535)`, `if (temp .gt. 32767) temp=temp-65536`
 abbrev pub drawn_value : Generator → ℕ → ℕ → ℤ
 drawn_value g k j = wrapped (kept_at g k +ℤ kept_at g j)
 
