@@ -1,10 +1,10 @@
 #!/usr/bin/env python3
 """Shows that each must-fail edit of code is a wrong program: with it, a program prints something else than it should.
 
-    wrong.py [--find] [--anew] [--since COMMIT] [--jobs N] [--outside PROGRAM] [CRATE | CRATE/EDIT ..]
+    wrong.py [--find] [--since COMMIT] [--jobs N] [--outside PROGRAM] [CRATE | CRATE/EDIT ..]
 
-An edit is made in a copy of the sources, and a program that uses what it changes is run on it, unproved, by `rt try`. What counts is
-what the compiled program does: it writes something else. The edit file names the run, which is then the only one that is needed:
+An edit is made in copies of the crate and of those above it, up to a program that uses what it changes, and that program is run, unproved, by
+`rt try`. What counts is what the compiled program does: it writes something else. The edit file names the run:
 
     seen: list                         the program on its own `stdin`, held to its own `stdout`
     seen: list samples/cut.rec         on a recording of samples/, held to the file of the program's name beside it
@@ -14,22 +14,18 @@ what the compiled program does: it writes something else. The edit file names th
     seen: leaves, is stopped           `rt try` stops the program, since what it does has no meaning (a sum that does not fit), or the program
                                        ends with another status than 0
 
-The last two count only where the edit says so. For an edit without such a line a run is looked for among all there are; --find writes the
-line, and writes it anew where it is no longer true. Every run that was used is made of the right program too, as `rt ci` built it, which has
-to print what it should. With --since only the edits of crates are tried that changed after COMMIT. Edits of specs/ change what is promised, so they are no
-wrong programs and are not tried.
+The last two count only where the edit says so. An edit without a line that is true is a fault; --find looks for a run among all there are, and
+writes the line. Every run that was used is made of the right program too, as `rt ci` built it, which has to print what it should. With --since
+only the edits of crates are tried that changed after COMMIT. Edits of specs/ change what is promised, so they are no wrong programs and are
+not tried.
 
-`rt try` compiles the kit's own library each time, which is most of what it takes. So what a run came to is kept on this machine, under a
-checksum of all that it stands on: the kit, this script, the program's sources and those of the crates below it with the edit made, the
-input, and what has to be written. It is not made again until one of them changes; --anew makes every run. The last line is `N cases, M
-faults`; the exit is 1 if there are faults or no cases.
+`rt try` compiles the kit's own library each time, which is most of what it takes. So the wrong programs of many edits are one: each is a
+variant, with copies of its own of what the edit changes and of all that stands above it, and the first argument of a run says which variant
+runs. The last line is `N cases, M faults`; the exit is 1 if there are faults or no cases.
 """
 
 import argparse
-import hashlib
-import json
 import os
-import queue
 import re
 import shutil
 import subprocess
@@ -42,21 +38,31 @@ from pathlib import Path
 from sources import CRATES, ROOT, Sources, below, changed, edits
 
 RECORDINGS, SEED = 560, 1
-SECONDS = 20  # how long a program may run
-KEPT = Path(os.environ.get("XDG_CACHE_HOME") or Path.home() / ".cache") / "oatlantern-wrong"
+SECONDS = 10  # how long a variant may run
+TOGETHER = 20  # how many variants are compiled together
 # what is stored beside a recording of what a program writes to standard output and to standard error; a program that is not named here has
 # a file of its own name, and nothing to say
 TOLD = {"salvager": ("salvaged", "changes")}
-# `rt try` without the check that it makes beside each try, which only hints at what a proof would refuse
-TRY = """
-import importlib.util, sys
-spec = importlib.util.spec_from_file_location("rtlib", sys.argv[1])
-rtlib = sys.modules["rtlib"] = importlib.util.module_from_spec(spec)
-spec.loader.exec_module(rtlib)
-rtlib.RATTLE = "true"
-sys.exit(rtlib.main("try", *sys.argv[2:]))
+# what a variant of a program does otherwise than the program: it takes the next argument for its first, and tells the changes behind the result
+TURNED = {"": [("rt.arg(1, ", "rt.arg(2, ")], "salvager": [("io::write_all(STDERR, &lines[..end])", "io::write_all(STDOUT, &lines[..end])")]}
+RIGHT, ELSE, ENDLESS, STOPPED = "prints the right thing", "prints something else", "does not end", "is stopped"
+MAIN = """// One wrong program of many: the first argument says which.
+use std::env::Env;
+
+fn main(rt: HostRuntime) {{
+    let mut word = [48u8; 4];
+    let long = rt.arg(1, &mut word).unwrap_or(0);
+    let mut n = 0usize;
+    let mut i = 0;
+    while i < long && i < 4 {{
+        n = 10 * n + (word[i] as usize - 48);
+        i += 1;
+    }}
+    match n {{
+{arms}        _ => {{}}
+    }}
+}}
 """
-RIGHT, ELSE, ENDLESS, STOPPED = "right", "prints something else", "does not end", "is stopped"
 
 
 class Runs:
@@ -72,7 +78,7 @@ class Runs:
 
     def inputs(self, program):
         own = CRATES / program
-        yield "", own / "stdin" if (own / "stdin").exists() else None, own / "stdout", None
+        yield "", own / "stdin" if (own / "stdin").exists() else self.nothing, own / "stdout", None
         kept = sorted((ROOT / "samples").glob("*.rec"))
         made = sorted((self.folder / "recordings").glob("*.rec"), key=lambda path: (path.stat().st_size > 2500, -path.stat().st_size))
         told, said = TOLD.get(program, (program, None))
@@ -90,79 +96,72 @@ class Runs:
         return next(((program, *run) for run in self.of.get(program, []) if run[0] == data.strip()), None)
 
 
-class Room:
-    """A copy of the sources in which programs are tried."""
+class Variants:
+    """Wrong programs made of one program by some edits, compiled together."""
 
-    def __init__(self, folder, listed, anew):
-        self.folder, self.listed, self.anew = folder, listed, anew
-        for crate in listed:
-            shutil.copytree(CRATES / crate / "src", folder / "crates" / crate / "src")
-        shutil.copy(ROOT / "crates.txt", folder / "crates.txt")
-        self.kit = subprocess.run(["rt", "version"], capture_output=True, check=True).stdout
-        self.rt = [sys.executable, "-B", "-c", TRY, str(Path(shutil.which("rt")).resolve().parent / "rtlib.py")]
+    def __init__(self, program, texts, listed, folder):
+        self.program, self.folder, self.faults = program, folder, None
+        whole = below(program, listed)
+        (folder / "crates").mkdir(parents=True)
+        lines = {}
+        for n, changes in enumerate(texts):
+            edited = {crate for crate, _ in changes} or {program}
+            own = {crate for crate in whole if edited & below(crate, listed)}
+            for crate in whole:
+                name = f"{crate}_v{n}" if crate in own else crate
+                if name not in lines:
+                    self.copy(crate, name, own, n, changes)
+                    lines[name] = [f"{use}_v{n}" if use in own else use for use in listed[crate]]
+        arms = ""
+        for n, changes in enumerate(texts):
+            name = f"{program}_v{n}"
+            asks = re.search(r"\bfn main\(\s*rt\b", (CRATES / program / "src/main.rt").read_text(encoding="utf-8"))
+            arms += f"        {n} => {name}::main({'rt' if asks else ''}),\n"
+        (folder / "crates/wrong/src").mkdir(parents=True)
+        (folder / "crates/wrong/src/main.rt").write_text(MAIN.format(arms=arms), encoding="utf-8")
+        lines["wrong"] = [f"{program}_v{n}" for n in range(len(texts))]
+        (folder / "crates.txt").write_text("".join(f"{name}: {' '.join(uses)}\n" for name, uses in lines.items()), encoding="utf-8")
 
-    def asked(self, texts, program, words, source):
-        """What `rt try` says of a program with these texts for some files, the interpreter left out, which is slow."""
-        for (crate, file), text in texts.items():
-            (self.folder / "crates" / crate / file).write_text(text, encoding="utf-8")
-        try:
-            return subprocess.run([*self.rt, "--steps", "1", "--seconds", str(SECONDS), *words], cwd=self.folder / "crates" / program, stdin=source,
-                                  capture_output=True, check=False)
-        finally:
-            for crate, file in texts:
-                shutil.copy(CRATES / crate / file, self.folder / "crates" / crate / file)
+    def copy(self, crate, name, own, n, changes):
+        """A crate under a name of its own, whose paths lead to the copies of the crates that have one."""
+        source = CRATES / crate / "src"
+        for path in sorted(source.rglob("*.rt")):
+            file = path.relative_to(CRATES / crate)
+            text = changes.get((crate, str(file))) or path.read_text(encoding="utf-8")
+            if own:
+                text = re.sub(rf"(?<![\w.:])({'|'.join(sorted(own, key=len, reverse=True))})(?=::)", rf"\1_v{n}", text)
+            if path.name == "main.rt" and path.parent == source:
+                file = file.with_name("lib.rt")
+                text = re.sub(r"^fn main\(", "pub fn main(", text, flags=re.M)
+                for old, new in TURNED[""] + TURNED.get(crate, []):
+                    text = text.replace(old, new)
+            place = self.folder / "crates" / name / file
+            place.parent.mkdir(parents=True, exist_ok=True)
+            place.write_text(text, encoding="utf-8")
 
-    def tried(self, texts, run):
-        """What a run of a program with these texts comes to, and what is seen of it; None and why where it is not compiled."""
-        program, _, data, told, said = run
-        place = KEPT / self.sum_of(texts, run)
-        if place.exists() and not self.anew:
-            return tuple(json.loads(place.read_text(encoding="utf-8")))
-        with open(data or os.devnull, "rb") as source:
-            done = self.asked(texts, program, [], source)
-        ended = re.search(rb"^run=(ended|fault|no-answer)(?: status=(\d+))?[^\n]* proved=no\n\Z", done.stderr, re.M)
-        if not ended:
-            return None, done.stderr.decode(errors="replace")
-        if ended[1] != b"ended" or ended[2] != b"0":
-            found = ENDLESS if ended[1] == b"no-answer" else STOPPED, done.stderr.decode(errors="replace").strip().splitlines()[-2][:160]
-        else:
-            # what the program said stands before what rt says of its runs
-            complained = done.stderr[:re.search(rb"^(interpreter|checked): ", done.stderr, re.M).start()]
-            pairs = [(done.stdout, told.read_bytes())] + ([(complained, said.read_bytes())] if said else [])
-            found = next(((ELSE, difference(*pair)) for pair in pairs if pair[0] != pair[1]), (RIGHT, ""))
-        if found[0] != ENDLESS:
-            KEPT.mkdir(parents=True, exist_ok=True)
-            with tempfile.NamedTemporaryFile("w", dir=KEPT, delete=False, encoding="utf-8") as it:
-                json.dump(found, it)
-            os.replace(it.name, place)
-        return found
+    def run(self, cases):
+        """What each of some cases, a variant and a run of it, comes to; None for all, and why, where they are not compiled."""
+        inputs = self.folder / "cases"
+        shutil.rmtree(inputs, ignore_errors=True)
+        inputs.mkdir()
+        for k, (n, (_, _, data, told, said)) in enumerate(cases):
+            shutil.copy(data, inputs / f"{k:05}")
+            (inputs / f"{k:05}.args").write_text(f"{n}\n", encoding="utf-8")
+            (inputs / f"{k:05}.stdout").write_bytes(told.read_bytes() + (said.read_bytes() if said else b""))
+        done = subprocess.run(["rt", "try", "--steps", "1", "--seconds", str(SECONDS), "--cases", str(inputs)], cwd=self.folder / "crates/wrong",
+                              stdin=subprocess.DEVNULL, capture_output=True, check=False)
+        said = done.stderr.decode(errors="replace") + done.stdout.decode(errors="replace")
+        found = {int(case): rest for case, rest in re.findall(r"^case=(\d+) (.*)$", said, re.M)}
+        if sorted(found) != list(range(len(cases))):
+            return None, said
+        return [self.meaning(found[k]) for k in range(len(cases))], ""
 
-    def sum_of(self, texts, run):
-        """A checksum of all that a run stands on."""
-        program, _, data, told, said = run
-        told_of = [self.kit, Path(__file__).read_bytes(), program.encode(), *(path.read_bytes() if path else b"" for path in (data, told, said))]
-        for crate in sorted(below(program, self.listed)):
-            told_of += [crate.encode(), repr(self.listed[crate]).encode()]
-            for path in sorted((CRATES / crate / "src").rglob("*.rt")):
-                file = str(path.relative_to(CRATES / crate))
-                told_of += [file.encode(), texts.get((crate, file), "").encode() or path.read_bytes()]
-        return hashlib.sha256(repr(told_of).encode()).hexdigest()
-
-    def differs(self, texts, program, runs):
-        """The first of some runs in which a program with these texts writes something else to standard output, or None: compiled once for all."""
-        with tempfile.TemporaryDirectory() as folder:
-            for n, (_, data, told, _) in enumerate(runs):
-                shutil.copy(data or os.devnull, Path(folder, f"{n:05}"))
-                shutil.copy(told, Path(folder, f"{n:05}.stdout"))
-            said = self.asked(texts, program, ["--cases", folder], subprocess.DEVNULL).stderr.decode(errors="replace")
-        found = re.search(r"^case=(\d+) run=ended status=0 .*output=differs", said, re.M)
-        return (program, *runs[int(found[1])]) if found else None
-
-
-def difference(found, wanted):
-    """Where two outputs differ first."""
-    at = next((n for n, (a, b) in enumerate(zip(found, wanted)) if a != b), min(len(found), len(wanted)))
-    return f"at byte {at} {found[at:at + 40]!r} for {wanted[at:at + 40]!r}"
+    def meaning(self, line):
+        if line.startswith("run=no-answer"):
+            return ENDLESS, line
+        if not line.startswith("run=ended status=0"):
+            return STOPPED, line
+        return (ELSE if "output=differs" in line else RIGHT), line
 
 
 def parted(seen):
@@ -172,8 +171,8 @@ def parted(seen):
 
 
 class Trial:
-    def __init__(self, runs, rooms, sources):
-        self.runs, self.rooms, self.listed = runs, rooms, sources.listed
+    def __init__(self, runs, sources, folder):
+        self.runs, self.listed, self.folder = runs, sources.listed, folder
         self.main = {item.crate: item for item in sources.programs()}
         self.reached = {program: {(i.crate, i.file, i.owner, i.name) for i in sources.reached([main])} for program, main in self.main.items()}
 
@@ -182,74 +181,58 @@ class Trial:
         places = {(edit.crate, *place[:3]) for place in changed(edit) if place}
         return sorted((p for p in self.main if places & self.reached[p] or p == edit.crate), key=lambda p: len(below(p, self.listed)))
 
-    def by_room(self, work):
-        room = self.rooms.get()
+    def variants(self, program, texts):
+        return Variants(program, texts, self.listed, Path(tempfile.mkdtemp(dir=self.folder)))
+
+    def together(self, program, wanted):
+        """The lines to print for some edits that are seen in one program, each with whether it is a fault; beside them the right program runs."""
+        said, tried, cases = [], [], []
+        for edit in wanted:
+            try:
+                texts = {(edit.crate, file): text for file, text in edit.applied()[0].items()}
+            except (ValueError, OSError) as fault:
+                said.append((str(fault), True))
+                continue
+            run = self.runs.named(parted(edit.seen)[0])
+            if not run:
+                said.append((f"{edit}: there is no run {edit.seen}", True))
+                continue
+            cases.append((len(tried), run))
+            tried.append((edit, texts))
+        if not tried:
+            return said
+        used = sorted({run for _, run in cases}, key=str)
         try:
-            return work(room)
-        finally:
-            self.rooms.put(room)
+            shown, why = self.variants(program, [texts for _, texts in tried] + [{}]).run(cases + [(len(tried), run) for run in used])
+        except OSError as fault:
+            shown, why = None, str(fault)
+        if shown is None:
+            if len(tried) == 1:
+                return said + [(f"{tried[0][0]}: is not compiled: {why.strip()[-300:]}", True)]
+            half = len(wanted) // 2
+            return self.together(program, wanted[:half]) + self.together(program, wanted[half:])
+        for (edit, _), (found, line) in zip(tried, shown):
+            how = parted(edit.seen)[1]
+            said.append((f"{edit}: {edit.seen}" + ("" if found == how else f": but it {found}: {line}"), found != how))
+        said += [(f"the right program: {' '.join(run[:2])}: {found}: {line}", True) for run, (found, line) in zip(used, shown[len(tried):]) if found != RIGHT]
+        return said
 
-    def right(self, run):
-        """The faults of the right program, as it was proved and built, in a run."""
-        program, words, data, told, said = run
-        with open(data or os.devnull, "rb") as source:
-            done = subprocess.run([ROOT / "run", CRATES / program / "out" / program], stdin=source, capture_output=True, timeout=120, check=False)
-        pairs = [(done.stdout, told.read_bytes()), (done.stderr, said.read_bytes() if said else b"")]
-        found = [difference(*pair) for pair in pairs if pair[0] != pair[1]] + ([f"status {done.returncode}"] if done.returncode else [])
-        return [f"{program} {words}: {fault}" for fault in found]
-
-    def looked_for(self, texts, programs):
-        """A run that shows an edit, and what it shows; the best there is. Where there is none and a program is not compiled, why."""
-        other = None, None, ""
-
-        def work(room):
-            nonlocal other
-            for program in programs:
-                runs = self.runs.of[program]
-                others = [(program, *run) for run in runs[1:] if run[0].startswith("samples/") and run[3]]
-                if found := room.differs(texts, program, runs[1:]) if runs[1:] else None:
-                    others = [found, *others]
-                for run in [(program, *runs[0]), *others]:
-                    shown, said = room.tried(texts, run)
-                    if shown is None:
-                        other = other if other[0] else (None, None, said)
-                        break
-                    if shown == ELSE:
-                        return run, shown, said
-                    if shown != RIGHT and not other[0]:
-                        other = run, shown, said
-            return other
-
-        return self.by_room(work)
-
-    def one(self, edit, find):
-        """The line to print for an edit, whether it is a fault, and the run in which it is seen."""
-        try:
-            texts = {(edit.crate, file): text for file, text in edit.applied()[0].items()}
-        except (ValueError, OSError) as fault:
-            return str(fault), True, None
-        words, how = parted(edit.seen)
-        told = ""
-        if run := self.runs.named(words):
-            shown, said = self.by_room(lambda room: room.tried(texts, run))
-            if shown == how:
-                return f"{edit}: {edit.seen}: {said}", False, run
-            told = f": {shown or 'it is not compiled'}: {said.strip()[:300]}"
-        if edit.seen and not find:
-            return f"{edit}: is not seen as its line says: {edit.seen}{told}", True, run
-        programs = self.programs_for(edit)
-        if not programs:
-            return f"{edit}: no program uses what it changes", True, None
-        run, shown, said = self.looked_for(texts, programs)
-        if not run:
-            why = f"is not compiled: {said.strip()[:200]}" if said else f"PRINTS THE RIGHT THING in every run of {', '.join(programs)}"
-            return f"{edit}: {why}", True, None
-        words = " ".join(word for word in run[:2] if word) + ("" if shown == ELSE else f", {shown}")
-        if find:
-            write_seen(edit, words)
-        elif shown != ELSE:
-            return f"{edit}: {words}, which counts only if its line says so", True, run
-        return f"{edit}: {words}: {said}", False, run
+    def looked_for(self, edit):
+        """The words of a run that shows an edit: one that prints something else, or else what there is."""
+        texts = {(edit.crate, file): text for file, text in edit.applied()[0].items()}
+        other = None
+        for program in self.programs_for(edit):
+            runs = [(program, *run) for run in self.runs.of[program]]
+            shown, why = self.variants(program, [texts]).run([(0, run) for run in runs])
+            if shown is None:
+                sys.exit(f"{edit}: is not compiled: {why.strip()[-600:]}")
+            for run, (found, _) in zip(runs, shown):
+                words = " ".join(word for word in run[:2] if word)
+                if found == ELSE:
+                    return words
+                if found != RIGHT:
+                    other = other or f"{words}, {found}"
+        return other
 
 
 def write_seen(edit, words):
@@ -275,32 +258,37 @@ def main():
     parser = argparse.ArgumentParser(usage=__doc__)
     parser.add_argument("names", nargs="*")
     parser.add_argument("--find", action="store_true")
-    parser.add_argument("--anew", action="store_true")
     parser.add_argument("--since")
     parser.add_argument("--outside", default=str(ROOT / "outside/target/release/outside"))
     parser.add_argument("--jobs", type=int, default=os.cpu_count())
     told = parser.parse_args()
     sources = Sources()
     wanted = chosen(told.names, told.since)
-    faults, used = 0, set()
-    started = time.time()
-    with tempfile.TemporaryDirectory() as folder:
+    faults, started = 0, time.time()
+    with tempfile.TemporaryDirectory() as folder, ThreadPoolExecutor(told.jobs) as pool:
         folder = Path(folder)
         (folder / "recordings").mkdir()
-        runs = Runs(told.outside, folder, [item.crate for item in sources.programs()])
-        rooms = queue.Queue()
-        for n in range(told.jobs):
-            rooms.put(Room(folder / f"room{n}", sources.listed, told.anew))
-        trial = Trial(runs, rooms, sources)
-        with ThreadPoolExecutor(told.jobs) as pool:
-            for said, fault, run in pool.map(lambda edit: trial.one(edit, told.find), wanted):
-                faults += fault
-                used |= {run} if run else set()
-                print(("FAULT " if fault else "") + said, flush=True)
-            for fault in (fault for found in pool.map(trial.right, sorted(used, key=str)) for fault in found):
-                faults += 1
-                print(f"FAULT the right program: {fault}")
-    print(f"the right program prints what it should in {len(used)} runs" if not faults else f"{len(used)} runs of the right program were made")
+        trial = Trial(Runs(told.outside, folder, [item.crate for item in sources.programs()]), sources, folder)
+
+        def all_of(found):
+            """The lines for some edits, by the program that shows each, so many together."""
+            by = {}
+            for edit in found:
+                by.setdefault(parted(edit.seen)[0].partition(" ")[0], []).append(edit)
+            groups = [(program, of[k : k + TOGETHER]) for program, of in by.items() for k in range(0, len(of), TOGETHER)]
+            for lines in pool.map(lambda group: trial.together(*group) if group[0] in trial.main else [(f"{edit}: no run is named", True) for edit in group[1]], groups):
+                yield from lines
+
+        lines = list(all_of(wanted))
+        if told.find:
+            bad = [edit for edit in wanted if any(fault and said.startswith(f"{edit}:") for said, fault in lines)]
+            for edit, words in zip(bad, pool.map(trial.looked_for, bad)):
+                if words:
+                    write_seen(edit, words)
+            lines = [line for line in lines if not line[1]] + list(all_of([edit for edit in edits() if str(edit) in {str(it) for it in bad}]))
+        for said, fault in lines:
+            faults += fault
+            print(("FAULT " if fault else "") + said, flush=True)
     print(f"{time.time() - started:.0f} s, edits of code tried: {len(wanted)} cases, {faults} faults")
     return 1 if faults or not wanted else 0
 

@@ -25,7 +25,6 @@ use Rattle.blocks.specs.Frames.{if_sound, frames_of, found_at, frames_from}
 use Rattle.blocks.specs.declared.Cause.{Cause}
 use Rattle.blocks.specs.declared.Cause.TheVariants.{EndMissing}
 use Rattle.blocks.specs.declared.Ending.{Ending}
-use Rattle.blocks.specs.declared.Ending.TheVariants as Ending
 use Rattle.blocks.specs.declared.Walk.{Walk}
 use Rattle.blocks.specs.declared.Walked.{Walked}
 use Rattle.blocks.specs.declared.Found.{Found}
