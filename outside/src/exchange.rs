@@ -761,15 +761,24 @@ fn payloads(cases: &mut Vec<u8>, g: &mut Generator) {
     }
 }
 
-/// The cases that the stored answers are for: every fifth of all, so that a run of them is short.
+/// The cases that the stored answers are for: every fifth of all but those of hearing after a state and of voice
+/// blocks, so that a run of them is short.
 pub fn stored() -> Vec<u8> {
-    let all = cases();
-    let cases = all.chunks_exact(CASE_LENGTH).step_by(5);
+    let (first, _) = first_cases();
+    let cases = first.chunks_exact(CASE_LENGTH).step_by(5);
     cases.flatten().copied().collect()
 }
 
 /// All cases.
 pub fn cases() -> Vec<u8> {
+    let (mut cases, mut g) = first_cases();
+    records_heard(&mut cases, &mut g);
+    payloads(&mut cases, &mut g);
+    cases
+}
+
+/// The cases of all other kinds, and the generator after them.
+fn first_cases() -> (Vec<u8>, Generator) {
     let mut cases = Vec::new();
     let mut g = Generator::new(1016);
     let frame = |cases: &mut Vec<u8>, bytes: &[u8]| put(cases, b'r', bytes, RECORD_LENGTH);
@@ -880,9 +889,7 @@ pub fn cases() -> Vec<u8> {
     steps_over_hits(&mut cases, &mut g);
     corrections(&mut cases);
     inverted(&mut cases, &mut g);
-    records_heard(&mut cases, &mut g);
-    payloads(&mut cases, &mut g);
-    cases
+    (cases, g)
 }
 
 #[cfg(test)]
