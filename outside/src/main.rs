@@ -12,7 +12,7 @@ use std::path::{Path, PathBuf};
 use std::process::ExitCode;
 
 const USAGE: &str =
-    "usage: outside tables | sample | list | hear | excite | many WORD FILE.. | salvage | lent | lent-for-c | lent-case [sound] | sheet | sheet-cases | sheet-for-c | sheet-cases-for-c | histories DIR N SEED | edges | recording SEED N | recordings DIR N SEED | cuts DIR | uploads DIR N SEED | leaves | leaf-cases [KIND MORE SEED] | windows DIR | exchange | exchange-cases [all] | subframes | subframes-for-c | subframe-cases [all]";
+    "usage: outside tables | sample | list | hear | excite | many WORD FILE.. | salvage | lent | lent-for-c | lent-case [sound] | sheet | sheet-cases | sheet-for-c | sheet-cases-for-c | histories DIR N SEED | edges | recording SEED N | recordings DIR N SEED | cuts DIR | uploads DIR N SEED | leaves | leaf-cases [KIND MORE SEED] | windows DIR | exchange | exchange-cases [all | others] | subframes | subframes-for-c | subframe-cases [all]";
 
 /// Recordings longer than this get no `.hear` file.
 const LONGEST_HEARD: usize = 20_000;
@@ -46,6 +46,7 @@ fn main() -> ExitCode {
         ["exchange"] => all_input().and_then(|cases| print(&exchange::answers(&cases))),
         ["exchange-cases"] => print(&exchange::stored()),
         ["exchange-cases", "all"] => print(&exchange::cases()),
+        ["exchange-cases", "others"] => print(&exchange::others()),
         ["subframes"] => all_input().and_then(|cases| print(&subframes::answers(&cases))),
         ["subframes-for-c"] => {
             all_input().and_then(|cases| print(&subframes::answers_for_c(&cases)))
