@@ -1,11 +1,11 @@
 #!/usr/bin/env python3
-"""Holds the program that salvages and lists into lent buffers to the independent one.
+"""Holds a program that salvages into a lent buffer, or salvages and lists into two for C, to the independent one.
 
-    lent.py OUTSIDE PROGRAM
+    lent.py OUTSIDE WORD PROGRAM
 
-OUTSIDE is the independent program, which makes the recordings and says what is to be printed of each case. PROGRAM is a command, one word of
-the shell's (as './run crates/lent/out/lent'). It has to print the same, say nothing on standard error and end with status 0. Buffers of the right
-lengths are lent with some of the edges, each cause of a refusal among them, with those made for salvaging, the longest sound recordings, samples,
+OUTSIDE is the independent program, which makes the recordings and says, called with WORD (`lent` or `lent-for-c`), what is to be printed of each
+case. PROGRAM is a command, one word of the shell's (as './run crates/lent/out/lent'). It has to print the same, say nothing on standard error and
+end with status 0. Buffers of the right lengths are lent with some of the edges, each cause of a refusal among them, with those made for salvaging, the longest sound recordings, samples,
 recordings that are too long, none at all and inputs of less than two bytes; and buffers of other lengths with some of these. The last line says
 how many cases were compared.
 """
@@ -82,8 +82,8 @@ def difference(answer, expected):
     return f"{len(printed)} bytes, not {len(wanted)}; from {at} on {printed[at:at + 60]!r}, not {wanted[at:at + 60]!r}"
 
 
-def main(outside, program):
-    independent, program = [outside, "lent"], shlex.split(program)
+def main(outside, word, program):
+    independent, program = [outside, word], shlex.split(program)
     compared = differ = 0
 
     def hold(name, answer, expected):
@@ -97,7 +97,7 @@ def main(outside, program):
     for name, data in made(outside):
         expected = run(independent, data)
         if expected[0] or expected[2]:
-            sys.exit(f"outside lent, {name}: status {expected[0]}, standard error {expected[2]!r}")
+            sys.exit(f"outside {word}, {name}: status {expected[0]}, standard error {expected[2]!r}")
         hold(name, run(program, data), expected)
     # the stored case, the same with the whole recording, and both in pieces, so that the two bytes of the length come one after the other
     for name, more in (("the stored case", []), ("the sound case", ["sound"])):
@@ -111,6 +111,6 @@ def main(outside, program):
 
 
 if __name__ == "__main__":
-    if len(sys.argv) != 3:
+    if len(sys.argv) != 4:
         sys.exit(__doc__)
     sys.exit(main(*sys.argv[1:]))

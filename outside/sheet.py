@@ -1,10 +1,10 @@
 #!/usr/bin/env python3
-"""Holds the program that makes calls on a tally book to the independent one.
+"""Holds a program that makes calls on a tally book, by our functions or by those for C, to the independent one.
 
-    sheet.py OUTSIDE PROGRAM
+    sheet.py OUTSIDE WORD PROGRAM
 
-OUTSIDE is the independent program, which makes the histories and says what is to be printed of each. PROGRAM is a command, one word of the
-shell's (as './run crates/sheet/out/sheet'). It has to print the same, say nothing on standard error and end with status 0: over the named histories
+OUTSIDE is the independent program, which makes the histories and says, called with WORD (`sheet` or `sheet-for-c`), what is to be printed of
+each. PROGRAM is a command, one word of the shell's (as './run crates/sheet/out/sheet'). It has to print the same, say nothing on standard error and end with status 0: over the named histories
 and generated ones, over the stored calls, and where the calls come in pieces. A case is a call that has a line. The last line says how many
 were compared.
 """
@@ -19,6 +19,8 @@ from pathlib import Path
 from listings import from_file, in_pieces
 
 HISTORIES, SEED = 120, 1
+# the word for the stored calls
+CASES = {"sheet": "sheet-cases", "sheet-for-c": "sheet-cases-for-c"}
 
 
 def run(program, data):
@@ -33,8 +35,8 @@ def differences(answer, expected):
     return wrong[0] if wrong else None, len(wrong)
 
 
-def main(outside, program):
-    independent, program = [outside, "sheet"], shlex.split(program)
+def main(outside, word, program):
+    independent, program = [outside, word], shlex.split(program)
     compared = differ = 0
 
     def hold(name, answer, expected):
@@ -54,15 +56,15 @@ def main(outside, program):
         folder = Path(name)
         subprocess.run([outside, "histories", folder, str(HISTORIES), str(SEED)], check=True)
         for path in sorted(folder.glob("*.calls")):
-            data, expected = path.read_bytes(), path.with_suffix(".said").read_bytes()
-            if run(independent, data) != (0, expected, b""):
-                sys.exit(f"outside sheet, {path.name}: not as it is written")
+            data, (status, expected, said) = path.read_bytes(), run(independent, path.read_bytes())
+            if status or said or (word == "sheet" and expected != path.with_suffix(".said").read_bytes()):
+                sys.exit(f"outside {word}, {path.name}: not as it is written")
             with path.open("rb") as calls:
                 hold(path.name, from_file(program, calls), expected)
             # those near the limit and beyond it, so that the last call that is made ends a piece
             if len(data) >= 1 << 18:
                 hold(f"{path.name} in pieces", in_pieces(program, data, 1 << 14), expected)
-    stored = run([outside, "sheet-cases"], b"")[1]
+    stored = run([outside, CASES[word]], b"")[1]
     expected = run(independent, stored)[1]
     hold("the stored calls", run(program, stored), expected)
     for size in (1, 7):
@@ -72,6 +74,6 @@ def main(outside, program):
 
 
 if __name__ == "__main__":
-    if len(sys.argv) != 3:
+    if len(sys.argv) != 4:
         sys.exit(__doc__)
     sys.exit(main(*sys.argv[1:]))

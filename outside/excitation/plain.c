@@ -113,7 +113,7 @@ int main(void)
         refused = excite(reg, &by, out, length);
         for (uint32_t more = word(given); more > 0; more--)
             refused = excite(reg, &by, out, length);
-        printf("%d", -refused);
+        printf("%d", refused);
         print(out, LONGEST);
         print(reg, REGISTER);
         putchar('\n');

@@ -1,5 +1,5 @@
-//! Salvaging and listing into lent buffers, shown with the numbers that are told and with every byte
-//! that the buffers hold afterwards.
+//! Salvaging into a lent buffer, shown with every byte that the buffer holds afterwards; and salvaging
+//! and listing for C, shown with the numbers that are told too.
 
 use crate::cases::{self, spoken};
 use crate::listing;
@@ -23,15 +23,28 @@ const NUMBER_BEFORE: i64 = 9;
 /// How much is left of the recording of the stored case: its fifth frame begins at 98.
 const CUT: usize = 107;
 
-/// Reads a case: what is told of its salvaging, and the buffer; what is told of its listing, and a
-/// buffer of twice the length.
-pub fn answer(case: &[u8]) -> Vec<u8> {
+/// The length of the buffer and the recording of a case.
+fn read(case: &[u8]) -> (usize, &[u8]) {
     let byte = |at| case.get(at).copied().unwrap_or(0);
     let length = match u16::from_le_bytes([byte(0), byte(1)]) {
         0 => LONGEST,
         n => usize::from(n),
     };
-    let recording = case.get(CASE_HEAD..).unwrap_or(&[]);
+    (length, case.get(CASE_HEAD..).unwrap_or(&[]))
+}
+
+/// Reads a case: the changes of its salvaging, and then the buffer.
+pub fn answer(case: &[u8]) -> Vec<u8> {
+    let (length, recording) = read(case);
+    let mut buffer = vec![BEFORE; length];
+    let salvaged = salvage::into_lent(recording, &mut buffer);
+    [salvage::changes(&salvaged).as_bytes(), &buffer].concat()
+}
+
+/// Reads a case for C: what is told of its salvaging, and the buffer; what is told of its listing, and
+/// a buffer of twice the length.
+pub fn answer_for_c(case: &[u8]) -> Vec<u8> {
+    let (length, recording) = read(case);
     let mut out = Vec::with_capacity(256 + 3 * length);
     salvage_into(&mut out, recording, length);
     list_into(&mut out, recording, 2 * length);

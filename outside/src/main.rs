@@ -12,7 +12,7 @@ use std::path::{Path, PathBuf};
 use std::process::ExitCode;
 
 const USAGE: &str =
-    "usage: outside tables | sample | list | hear | excite | many WORD FILE.. | salvage | lent | lent-case [sound] | sheet | sheet-cases | histories DIR N SEED | edges | recording SEED N | recordings DIR N SEED | cuts DIR | uploads DIR N SEED | leaves | leaf-cases [KIND MORE SEED] | windows DIR | exchange | exchange-cases [all] | subframes | subframe-cases [all]";
+    "usage: outside tables | sample | list | hear | excite | many WORD FILE.. | salvage | lent | lent-for-c | lent-case [sound] | sheet | sheet-cases | sheet-for-c | sheet-cases-for-c | histories DIR N SEED | edges | recording SEED N | recordings DIR N SEED | cuts DIR | uploads DIR N SEED | leaves | leaf-cases [KIND MORE SEED] | windows DIR | exchange | exchange-cases [all | others] | subframes | subframes-for-c | subframe-cases [all]";
 
 /// Recordings longer than this get no `.hear` file.
 const LONGEST_HEARD: usize = 20_000;
@@ -46,7 +46,11 @@ fn main() -> ExitCode {
         ["exchange"] => all_input().and_then(|cases| print(&exchange::answers(&cases))),
         ["exchange-cases"] => print(&exchange::stored()),
         ["exchange-cases", "all"] => print(&exchange::cases()),
+        ["exchange-cases", "others"] => print(&exchange::others()),
         ["subframes"] => all_input().and_then(|cases| print(&subframes::answers(&cases))),
+        ["subframes-for-c"] => {
+            all_input().and_then(|cases| print(&subframes::answers_for_c(&cases)))
+        }
         ["subframe-cases"] => print(&subframes::stored()),
         ["subframe-cases", "all"] => print(&subframes::cases()),
         ["windows", folder] => windows(Path::new(folder)),
@@ -56,10 +60,17 @@ fn main() -> ExitCode {
         ["excite"] => input().and_then(|recording| print(&excite::excite(&recording))),
         ["salvage"] => input().and_then(|recording| print_salvaged(&recording)),
         ["lent"] => first(lent::LONGEST_CASE).and_then(|case| print(&lent::answer(&case))),
+        ["lent-for-c"] => {
+            first(lent::LONGEST_CASE).and_then(|case| print(&lent::answer_for_c(&case)))
+        }
         ["lent-case"] => print(&lent::case()),
         ["lent-case", "sound"] => print(&lent::sound_case()),
         ["sheet"] => first(sheet::LONGEST).and_then(|calls| print(&sheet::answers(&calls))),
         ["sheet-cases"] => print(&sheet::cases()),
+        ["sheet-for-c"] => {
+            first(sheet::LONGEST).and_then(|calls| print(&sheet::answers_for_c(&calls)))
+        }
+        ["sheet-cases-for-c"] => print(&sheet::cases_for_c()),
         ["histories", folder, count, seed] => match (count.parse(), seed.parse()) {
             (Ok(count), Ok(seed)) => histories(Path::new(folder), count, seed),
             _ => return usage(),

@@ -3,6 +3,7 @@
 
 use crate::cases::{self, spoken};
 use crate::leaves::as_one;
+use crate::listing;
 use crate::recording::{self, Recording};
 use crate::refusal::Refusal;
 use crate::salvage;
@@ -95,6 +96,15 @@ fn call<'a>(rest: &mut &'a [u8]) -> Option<Call<'a>> {
     })
 }
 
+/// How entering a recording is told.
+#[derive(Clone, Copy, PartialEq, Eq)]
+enum Form {
+    /// By the line of an entry, or by the recording's line of `list`.
+    Listed,
+    /// As the functions for C tell it: by the words of an entry and what is told of the recording.
+    ForC,
+}
+
 /// The words for a refusal.
 fn refused(Refusal { number, .. }: Refusal) -> String {
     format!("refused {number}")
@@ -102,13 +112,15 @@ fn refused(Refusal { number, .. }: Refusal) -> String {
 
 /// A book and its words. The book answers.
 struct Sheet {
+    form: Form,
     book: Book,
     words: Vec<u32>,
 }
 
 impl Sheet {
-    fn new() -> Self {
+    fn new(form: Form) -> Self {
         Sheet {
+            form,
             book: Book::default(),
             words: vec![0; WORDS],
         }
@@ -150,16 +162,27 @@ impl Sheet {
         }
     }
 
-    /// Enters the entry of a recording: the answer and, in five numbers, what is told of the
+    /// Enters the entry of a recording: the answer and, for C, in five numbers what is told of the
     /// recording.
     fn enter_recording(&mut self, recording: &[u8], count: u32) -> String {
         let checked = recording::check(recording);
-        let answer = match checked {
-            Ok(Recording { unit, number, .. }) => self.enter(Entry::new(unit, number, count)),
-            Err(fault) => refused(fault.into()),
+        let answer = match (&checked, self.form) {
+            (Ok(Recording { unit, number, .. }), _) => {
+                self.enter(Entry::new(*unit, *number, count))
+            }
+            (Err(fault), Form::ForC) => refused((*fault).into()),
+            (Err(fault), Form::Listed) => {
+                let line = listing::refused((*fault).into());
+                return String::from_utf8(line).expect("a line of text");
+            }
         };
-        let told = recording::told(&checked).map(|n| format!(" {n}")).concat();
-        format!("{answer} told{told}\n")
+        match self.form {
+            Form::Listed => format!("{answer}\n"),
+            Form::ForC => {
+                let told = recording::told(&checked).map(|n| format!(" {n}")).concat();
+                format!("{answer} told{told}\n")
+            }
+        }
     }
 
     /// Enters an entry. One that is new is laid at the next row.
@@ -195,8 +218,17 @@ impl Sheet {
 
 /// Makes the calls and writes the line of each.
 pub fn answers(input: &[u8]) -> Vec<u8> {
+    lines(input, Form::Listed)
+}
+
+/// The same as the functions for C tell it.
+pub fn answers_for_c(input: &[u8]) -> Vec<u8> {
+    lines(input, Form::ForC)
+}
+
+fn lines(input: &[u8], form: Form) -> Vec<u8> {
     let mut rest = &input[..input.len().min(LONGEST)];
-    let mut sheet = Sheet::new();
+    let mut sheet = Sheet::new(form);
     let mut out = Vec::new();
     let mut more = 0;
     while let Some(call) = call(&mut rest) {
@@ -281,11 +313,20 @@ impl Calls {
 
 /// The calls that the stored lines are for.
 pub fn cases() -> Vec<u8> {
+    calls(Form::Listed)
+}
+
+/// The same for C, where more recordings are refused.
+pub fn cases_for_c() -> Vec<u8> {
+    calls(Form::ForC)
+}
+
+fn calls(form: Form) -> Vec<u8> {
     let mut calls = Calls::default();
     few(&mut calls);
     ends(&mut calls);
     cleared(&mut calls);
-    recordings(&mut calls);
+    recordings(&mut calls, form);
     nearly_full(&mut calls);
     told_too_many(&mut calls);
     largest_total(&mut calls);
@@ -398,7 +439,7 @@ fn cleared(calls: &mut Calls) {
 
 /// Recordings: sound, the same again, with another count, with a key that is entered by itself,
 /// salvaged and whole, and refused of several causes.
-fn recordings(calls: &mut Calls) {
+fn recordings(calls: &mut Calls, form: Form) {
     let sample = cases::sample();
     let frames = spoken(21, 2);
     let (unit, number) = (0x0102_0304, 0x0A0B_0C0D);
@@ -437,7 +478,7 @@ fn recordings(calls: &mut Calls) {
     calls.total(12);
     calls.look();
     // Refused: nothing at all, a cut header, lengths past the end, wrong sizes, a wrong number in the end, a byte
-    // after it, no head, no end, an unknown kind, a second head, an end before any voice.
+    // after it, no head, no end; for C, by its cause, also an unknown kind, a second head, an end before any voice.
     let mut long_head = sound[..14].to_vec();
     long_head[0] = 9;
     long_head.push(0);
@@ -450,6 +491,10 @@ fn recordings(calls: &mut Calls) {
     unknown_kind[18] = 4;
     let second_head = [&sound[..14], &sound].concat();
     let end_first = [&sound[..14], &sound[38..]].concat();
+    let more = match form {
+        Form::Listed => vec![],
+        Form::ForC => vec![&unknown_kind[..], &second_head, &end_first],
+    };
     for recording in [
         &[][..],
         &sound[..3],
@@ -462,10 +507,10 @@ fn recordings(calls: &mut Calls) {
         &after_the_end,
         &sound[14..],
         &sound[..38],
-        &unknown_kind,
-        &second_head,
-        &end_first,
-    ] {
+    ]
+    .into_iter()
+    .chain(more)
+    {
         calls.enter_recording(11, recording);
         calls.look();
     }

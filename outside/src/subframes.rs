@@ -1,5 +1,5 @@
-//! Cases of single subframes, laid out in bytes, and the line of each: the result, the lent buffer
-//! and the register after. CASES.md sets out both to the letter.
+//! Cases of single subframes, laid out in bytes, and the line of each: the refusal, or the result for
+//! C, the lent buffer and the register after. CASES.md sets out both to the letter.
 
 use crate::cases::Generator;
 use crate::codes::{self, CODE_LENGTH};
@@ -102,19 +102,20 @@ impl Case {
         );
     }
 
-    /// Makes the excitation and writes the line of it.
-    fn answer(&self, out: &mut Vec<u8>) {
+    /// Makes the excitation and writes the line of it, which begins with the refusal's number times a
+    /// sign.
+    fn answer(&self, out: &mut Vec<u8>, sign: i64) {
         let mut register = self.register;
         let mut buffer = [BEFORE; LONGEST];
         let lent = &mut buffer[..usize::from(self.length).min(LONGEST)];
-        let mut result = 0;
+        let mut refused = 0;
         for _ in 0..=self.more {
-            result = match register.excite(&self.subframe, lent) {
+            refused = match register.excite(&self.subframe, lent) {
                 Ok(()) => 0,
-                Err(refusal) => -i64::from(refusal.number),
+                Err(refusal) => refusal.number,
             };
         }
-        number(out, result);
+        number(out, sign * i64::from(refused));
         numbers(out, buffer.map(i64::from));
         numbers(out, register.0.map(i64::from));
         out.push(b'\n');
@@ -122,12 +123,22 @@ impl Case {
 }
 
 /// Reads cases and writes the line of each.
-pub fn answers(cases: &[u8]) -> Vec<u8> {
+fn lines(cases: &[u8], sign: i64) -> Vec<u8> {
     let mut out = Vec::new();
     for case in cases.chunks_exact(CASE_LENGTH) {
-        Case::read(case).answer(&mut out);
+        Case::read(case).answer(&mut out, sign);
     }
     out
+}
+
+/// The line of each case: it begins with the refusal's number, 0 where there is none.
+pub fn answers(cases: &[u8]) -> Vec<u8> {
+    lines(cases, 1)
+}
+
+/// The line of each case for C: it begins with the result, minus the refusal's number.
+pub fn answers_for_c(cases: &[u8]) -> Vec<u8> {
+    lines(cases, -1)
 }
 
 /// The bytes of the cases whose answers are stored.

@@ -375,7 +375,7 @@ fn the_lines_of_subframes_are_these() {
                 length,
                 ..fresh.clone()
             };
-            assert_eq!(said(&refused), format!("-{number} {rest}"));
+            assert_eq!(said(&refused), format!("{number} {rest}"));
         }
     }
     // Cases one after the other; one that is cut ends them.
@@ -653,7 +653,7 @@ fn line(rule: Rule, given: &Given) -> Vec<i64> {
         number = make(rule, given, &mut register, &mut buffer[..length]);
     }
     let numbers = buffer.iter().chain(&register);
-    [-number]
+    [number]
         .into_iter()
         .chain(numbers.map(|&n| n.into()))
         .collect()

@@ -13,12 +13,9 @@ fn number(bytes: &[u8], at: usize, count: usize) -> Option<u64> {
     Some(part.fold(0, |sum, &byte| sum * 256 + u64::from(byte)))
 }
 
-/// A refusal, and the number of its cause.
-type Wrong = (Refusal, u8);
-
 /// All that is wrong with the first block that has anything wrong, in the order in which it is
 /// told, with the block's kind if it is there; nothing of a sound recording.
-fn faults(bytes: &[u8]) -> (Option<u64>, Vec<Wrong>) {
+fn faults(bytes: &[u8]) -> (Option<u64>, Vec<Refusal>) {
     let (mut at, mut frames) = (0, 0);
     let mut before = Vec::new(); // the kinds of the blocks before
     loop {
@@ -27,8 +24,7 @@ fn faults(bytes: &[u8]) -> (Option<u64>, Vec<Wrong>) {
         let ended = before.contains(&3);
         if ended || rest.is_empty() {
             let wrong = ended != rest.is_empty();
-            let cause = if ended { 9 } else { 7 };
-            let all = wrong.then_some((Refusal::new(8, place), cause));
+            let all = wrong.then_some(Refusal::new(8, place));
             return (None, all.into_iter().collect());
         }
         let length = number(rest, 0, 4);
@@ -41,27 +37,23 @@ fn faults(bytes: &[u8]) -> (Option<u64>, Vec<Wrong>) {
             (Some(3), Some(length)) => length != 4,
             _ => false,
         };
-        let unknown = kind.is_some_and(|kind| !(1..=3).contains(&kind));
-        let out_of_turn = match kind {
+        let astray = match kind {
             Some(1) => !before.is_empty(),
             Some(2) => before.is_empty(),
-            Some(3) => !before.contains(&2),
-            _ => false,
+            Some(3) => !before.contains(&2) || number(rest, 6, 4).is_some_and(|n| n != frames),
+            Some(_) => true,
+            None => false,
         };
-        let wrong_number = kind == Some(3) && number(rest, 6, 4).is_some_and(|n| n != frames);
         let size = length.unwrap_or(0);
         let all = [
-            (cut, Refusal::new(9, place), 2),
-            (past, Refusal::new(10, place), 3),
-            (size_wrong, Refusal::wrong_size(place, size as u32), 4),
-            (unknown, Refusal::new(8, place), 5),
-            (out_of_turn, Refusal::new(8, place), 6),
-            (wrong_number, Refusal::new(8, place), 8),
+            (cut, Refusal::new(9, place)),
+            (past, Refusal::new(10, place)),
+            (size_wrong, Refusal::wrong_size(place, size as u32)),
+            (astray, Refusal::new(8, place)),
         ];
-        if all.iter().any(|(holds, _, _)| *holds) {
-            let holding = all.into_iter().filter(|(holds, _, _)| *holds);
-            let holding = holding.map(|(_, refusal, cause)| (refusal, cause));
-            return (kind, holding.collect());
+        if all.iter().any(|(holds, _)| *holds) {
+            let holding = all.into_iter().filter(|(holds, _)| *holds);
+            return (kind, holding.map(|(_, refusal)| refusal).collect());
         }
         before.extend(kind);
         frames += size / 18;
@@ -70,70 +62,21 @@ fn faults(bytes: &[u8]) -> (Option<u64>, Vec<Wrong>) {
 }
 
 /// A second reader: the first of all that is wrong.
-fn second_checker(bytes: &[u8]) -> Option<Wrong> {
+fn second_reader(bytes: &[u8]) -> Option<Refusal> {
     if bytes.len() > 65_536 {
-        return Some((Refusal::new(1, 0), 1));
+        return Some(Refusal::new(1, 0));
     }
     faults(bytes).1.first().copied()
-}
-
-/// The refusal of the second reader.
-fn second_reader(bytes: &[u8]) -> Option<Refusal> {
-    second_checker(bytes).map(|(refusal, _)| refusal)
-}
-
-/// What is told of bytes as the second reader says: the number of the cause, 0 if they are sound.
-fn hold_told(bytes: &[u8], name: &str) -> u8 {
-    let checked = recording::check(bytes);
-    let told = recording::told(&checked);
-    match second_checker(bytes) {
-        None => {
-            let [unit, recording] = [6, 10].map(|at| number(bytes, at, 4).unwrap() as u32);
-            assert_eq!(told, [unit, recording, 0, 0, 0], "{name}");
-            assert!(checked.is_ok(), "{name}");
-            0
-        }
-        Some((refusal, cause)) => {
-            let size = refusal.size.unwrap_or(0);
-            assert_eq!(told, [0, 0, refusal.tells, size, cause.into()], "{name}");
-            let fault = checked.unwrap_err();
-            assert_eq!(Refusal::from(fault), refusal, "{name}");
-            assert_eq!(fault.cause.number(), cause, "{name}");
-            cause
-        }
-    }
 }
 
 /// Where a recording is refused, the kind of the block there (4 for each unknown one), and the
 /// numbers of all that is wrong with it.
 fn causes(bytes: &[u8]) -> (u32, Option<u64>, Vec<u8>) {
     let (kind, all) = faults(bytes);
-    let place = all.first().map_or(0, |(refusal, _)| refusal.tells);
+    let place = all.first().map_or(0, |refusal| refusal.tells);
     let kind = kind.map(|kind| if (1..=3).contains(&kind) { kind } else { 4 });
-    let mut numbers: Vec<u8> = all.iter().map(|(refusal, _)| refusal.number).collect();
-    numbers.dedup();
-    (place, kind, numbers)
-}
-
-#[test]
-fn every_cause_is_told_as_a_second_reader_says() {
-    let mut edges = BTreeSet::new();
-    for edge in cases::edges() {
-        edges.insert(hold_told(&edge.bytes, &edge.name));
-    }
-    assert_eq!(edges, (0..=9).collect());
-    let mut made = BTreeSet::new();
-    for bytes in made_up() {
-        made.insert(hold_told(&bytes, "made up"));
-    }
-    assert_eq!(made, [0].into_iter().chain(2..=9).collect());
-    let mut generated = [0; 10];
-    for n in 0..6_000 {
-        let cause = hold_told(&cases::recording(98, n), &format!("recording {n}"));
-        generated[usize::from(cause)] += 1;
-    }
-    assert_eq!((generated[0], generated[1]), (3_000, 0));
-    assert!(generated[2..].iter().all(|&n| n > 20), "{generated:?}");
+    let numbers = all.iter().map(|refusal| refusal.number);
+    (place, kind, numbers.collect())
 }
 
 #[test]

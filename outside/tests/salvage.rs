@@ -2,9 +2,10 @@
 //! salvaged, over the edges, the cuts, uploads and generated recordings.
 
 use outside::cases::{self, Generator};
+use outside::lent;
+use outside::recording;
 use outside::salvage::{changes, into_lent, salvage, written, Salvaged};
 use outside::uploads::{cuts, upload};
-use outside::{lent, listing, recording};
 use std::collections::BTreeMap;
 
 const LONGEST: usize = 65_536;
@@ -700,84 +701,30 @@ fn lent_case(n: u16, recording: &[u8]) -> Vec<u8> {
     [&n.to_le_bytes(), recording].concat()
 }
 
-/// A line, and after it a buffer that begins with some bytes and is 170 from there on.
-fn line_and_buffer(line: &str, bytes: &[u8], length: usize) -> Vec<u8> {
-    let mut all = [line.as_bytes(), b"\n", bytes].concat();
-    all.resize(line.len() + 1 + length, 170);
+/// Lines, and after them a buffer that begins with some bytes and is 170 from there on.
+fn lines_and_buffer(text: &str, bytes: &[u8], length: usize) -> Vec<u8> {
+    let mut all = [text.as_bytes(), bytes].concat();
+    all.resize(text.len() + length, 170);
     all
-}
-
-/// What is printed of buffers of a length that is not right.
-fn wrong_buffers(length: usize) -> Vec<u8> {
-    let salvaged = line_and_buffer("salvage -1 9 9 9 9 9", &[], length);
-    let listed = line_and_buffer("list -1 9 9 9 9 9 9", &[], 2 * length);
-    [salvaged, listed].concat()
-}
-
-/// What is printed of right buffers: by the salvaging of the second way, and by the text of the listing
-/// and the cause of a refusal.
-fn right_buffers(input: &[u8], salvaged: &Salvaged, cause: u8) -> Vec<u8> {
-    let bytes = written(input, salvaged);
-    let line = match salvaged {
-        Salvaged::Sound => format!("salvage 0 0 0 0 0 {}", input.len()),
-        Salvaged::Mended {
-            dropped,
-            from,
-            frames,
-            end,
-            ..
-        } => format!("salvage 1 {dropped} {from} {frames} {end} {}", end + 10),
-        Salvaged::Refused(number) => format!("salvage -{number} 9 9 9 9 9"),
-    };
-    let salvaged = line_and_buffer(&line, bytes, LONGEST);
-    let text = listing::list(input);
-    let words = String::from_utf8(text.clone()).expect("text");
-    let words: Vec<&str> = words.lines().next().expect("a line").split(' ').collect();
-    let length = text.len();
-    let line = match words[..] {
-        ["unit", unit, "recording", number, ..] => {
-            assert_eq!(cause, 0);
-            format!("list 0 {length} {unit} {number} 0 0 0")
-        }
-        ["refused", "1", "at", "65536"] => format!("list -1 {length} 0 0 0 0 {cause}"),
-        ["refused", "11", "at", at, size] => format!("list -11 {length} 0 0 {at} {size} {cause}"),
-        ["refused", number, "at", at] => format!("list -{number} {length} 0 0 {at} 0 {cause}"),
-        _ => panic!("{words:?}"),
-    };
-    let listed = line_and_buffer(&line, &text, 2 * LONGEST);
-    [salvaged, listed].concat()
-}
-
-/// The number of the cause for which bytes are refused, 0 if they are sound.
-fn cause(input: &[u8]) -> u8 {
-    recording::check(input).map_or_else(|fault| fault.cause.number(), |_| 0)
 }
 
 /// Lengths of a buffer that are not right, as a case has them.
 const OTHER_LENGTHS: [u16; 7] = [1, 2, 10, 48, 65_520, 65_532, 65_535];
 
 #[test]
-fn the_sample_cut_in_its_second_frame_into_lent_buffers() {
+fn the_sample_cut_in_its_second_frame_into_a_lent_buffer() {
     let cut = &cases::sample()[..44];
     let mended = hex(&[HEAD, ONE_FRAME, ZERO, END_OF_1].concat());
     let said = lent::answer(&lent_case(0, cut));
-    let first = b"salvage 1 6 38 1 38 48\n";
-    let (line, rest) = said.split_at(first.len());
-    assert_eq!(line, first);
-    let (buffer, rest) = rest.split_at(LONGEST);
+    let text = "dropped 6 bytes from 38\nkept 1 frames\nend written at 38\n";
+    assert_eq!(said.len(), text.len() + LONGEST);
+    assert!(said.starts_with(text.as_bytes()));
+    let buffer = &said[text.len()..];
     assert_eq!(buffer[..48], mended);
     assert!(buffer[48..].iter().all(|&byte| byte == 170));
-    let second = b"list -10 17 0 0 14 0 3\n";
-    let (line, buffer) = rest.split_at(second.len());
-    assert_eq!(line, second);
-    assert_eq!(
-        (buffer.len(), &buffer[..17]),
-        (131_072, &b"refused 10 at 14\n"[..])
-    );
-    assert!(buffer[17..].iter().all(|&byte| byte == 170));
     // It would go into so many bytes, but no other length is right.
     for n in [48, 49, 65_535] {
-        let refused = wrong_buffers(n.into());
+        let refused = lines_and_buffer("refused 1\n", &[], usize::from(n));
         assert_eq!(lent::answer(&lent_case(n, cut)), refused, "{n}");
     }
 }
@@ -793,30 +740,14 @@ fn the_stored_case_is_cut_in_its_fifth_frame() {
     let mut mended = recording[..98].to_vec();
     mended[74] = 18;
     mended.extend([4, 0, 0, 0, 3, 0, 4, 0, 0, 0]);
-    let salvaged = line_and_buffer("salvage 1 9 98 4 98 108", &mended, LONGEST);
-    let text = b"refused 10 at 74\n";
-    let listed = line_and_buffer("list -10 17 0 0 74 0 3", text, 2 * LONGEST);
-    assert_eq!(lent::answer(&case), [salvaged, listed].concat());
+    let expected = lines_and_buffer(&lines(9, 98, 4), &mended, LONGEST);
+    assert_eq!(lent::answer(&case), expected);
     // No byte that is written is as the buffer was before, so that it shows how far it goes.
     assert!(!mended.contains(&170));
 }
 
 #[test]
-fn the_sound_case_is_the_stored_one_whole() {
-    let case = lent::sound_case();
-    assert_eq!(case.len(), 146);
-    assert_eq!(case[..109], lent::case());
-    let recording = &case[2..];
-    let salvaged = line_and_buffer("salvage 0 0 0 0 0 144", recording, LONGEST);
-    let text = listing::list(recording);
-    assert_eq!(text.split(|&byte| byte == b'\n').count(), 9);
-    let listed = line_and_buffer("list 0 213 12 345 0 0 0", &text, 2 * LONGEST);
-    assert_eq!(lent::answer(&case), [salvaged, listed].concat());
-    assert!(!recording.contains(&170));
-}
-
-#[test]
-fn lent_buffers_hold_what_is_written_and_else_what_they_held() {
+fn a_lent_buffer_holds_what_is_salvaged_and_else_what_it_held() {
     let mut all: Vec<(String, Vec<u8>)> = cases::edges()
         .into_iter()
         .map(|edge| (edge.name, edge.bytes))
@@ -826,12 +757,10 @@ fn lent_buffers_hold_what_is_written_and_else_what_they_held() {
     all.extend((0..300).map(|n| (format!("upload {n}"), upload(7, n))));
     let before = Generator::new(41).bytes(LONGEST);
     let mut reached = BTreeMap::new();
-    let mut causes = BTreeMap::new();
     for (name, input) in &all {
         let salvaged = second_way(input, LONGEST);
         let bytes = written(input, &salvaged);
-        let cause = cause(input);
-        let expected = right_buffers(input, &salvaged, cause);
+        let expected = lines_and_buffer(&changes(&salvaged), bytes, LONGEST);
         assert!(lent::answer(&lent_case(0, input)) == expected, "{name}");
         // Whatever the buffer held.
         let mut buffer = before.clone();
@@ -845,19 +774,16 @@ fn lent_buffers_hold_what_is_written_and_else_what_they_held() {
             Salvaged::Refused(_) => "refused 12",
         };
         *reached.entry(word).or_insert(0) += 1;
-        *causes.entry(cause).or_insert(0) += 1;
     }
     assert_eq!(reached.len(), 4, "{reached:?}");
     assert!(reached.values().all(|&n| n >= 10), "{reached:?}");
-    assert_eq!(causes.len(), 10, "{causes:?}");
-    assert!(causes.values().all(|&n| n >= 10), "{causes:?}");
 }
 
 #[test]
-fn lent_buffers_of_another_length_are_refused_whatever_the_recording() {
+fn a_lent_buffer_of_another_length_is_refused_whatever_the_recording() {
     for edge in cases::edges() {
         for n in OTHER_LENGTHS {
-            let expected = wrong_buffers(n.into());
+            let expected = lines_and_buffer("refused 1\n", &[], usize::from(n));
             let said = lent::answer(&lent_case(n, &edge.bytes));
             assert!(said == expected, "{n}: {}", edge.name);
         }
@@ -875,42 +801,30 @@ fn lent_buffers_of_another_length_are_refused_whatever_the_recording() {
 }
 
 #[test]
-fn short_cases_of_lent_buffers() {
+fn short_cases_of_a_lent_buffer() {
     let sample = cases::sample();
-    let none = Salvaged::Refused(12);
-    // What is not there of the number is 0, and the recording is empty.
-    let empty = right_buffers(&[], &none, 7);
-    assert!(empty.starts_with(b"salvage -12 9 9 9 9 9\n\xAA"));
-    assert!(empty[LONGEST..].starts_with(&[170; 22]));
-    assert!(empty[LONGEST + 22..].starts_with(b"list -8 15 0 0 0 0 7\nrefused 8 at 0\n\xAA"));
-    for (case, expected) in [
-        (vec![], empty.clone()),
-        (vec![0], empty.clone()),
-        (vec![0, 0], empty),
-        (vec![5], wrong_buffers(5)),
-        (vec![255], wrong_buffers(255)),
+    for (case, text, bytes, length) in [
+        // What is not there of the number is 0, and the recording is empty.
+        (vec![], "refused 12\n", &[][..], LONGEST),
+        (vec![0], "refused 12\n", &[], LONGEST),
+        (vec![0, 0], "refused 12\n", &[], LONGEST),
+        (vec![5], "refused 1\n", &[], 5),
+        (vec![255], "refused 1\n", &[], 255),
         // The lowest byte is first.
-        (vec![5, 0], wrong_buffers(5)),
-        (vec![0, 5], wrong_buffers(1_280)),
-        (vec![255, 255], wrong_buffers(65_535)),
-        (lent_case(0, &[170]), right_buffers(&[170], &none, 2)),
-        (
-            lent_case(0, &sample),
-            right_buffers(&sample, &Salvaged::Sound, 0),
-        ),
-        (lent_case(66, &sample), wrong_buffers(66)),
+        (vec![5, 0], "refused 1\n", &[], 5),
+        (vec![0, 5], "refused 1\n", &[], 1_280),
+        (vec![255, 255], "refused 1\n", &[], 65_535),
+        (lent_case(0, &[170]), "refused 12\n", &[], LONGEST),
+        (lent_case(0, &sample), "", &sample, LONGEST),
+        (lent_case(66, &sample), "refused 1\n", &[], 66),
     ] {
+        let expected = lines_and_buffer(text, bytes, length);
         assert!(lent::answer(&case) == expected, "{case:?}");
     }
-    let said = lent::answer(&lent_case(0, &sample));
-    assert!(said.starts_with(b"salvage 0 0 0 0 0 66\n"));
-    assert!(
-        said[LONGEST + 21..].starts_with(b"list 0 101 7 1 0 0 0\nunit 7 recording 1 frames 2\n")
-    );
 }
 
 #[test]
-fn the_longest_cases_of_lent_buffers() {
+fn the_longest_cases_of_a_lent_buffer() {
     // What is read of a case has room for one byte past the longest recording.
     let edges = cases::edges().into_iter();
     let long = edges
@@ -918,13 +832,9 @@ fn the_longest_cases_of_lent_buffers() {
         .find(|bytes| bytes.len() > LONGEST);
     let long = long.expect("there is one that is too long");
     assert_eq!(lent_case(0, &long[..=LONGEST]).len(), lent::LONGEST_CASE);
-    for n in [48, 65_535] {
-        let expected = wrong_buffers(n.into());
+    for n in [0, 48, 65_535] {
+        let length = if n == 0 { LONGEST } else { usize::from(n) };
+        let expected = lines_and_buffer("refused 1\n", &[], length);
         assert!(lent::answer(&lent_case(n, &long)) == expected, "{n}");
     }
-    // With right buffers the listing is laid all the same.
-    let salvaged = line_and_buffer("salvage -1 9 9 9 9 9", &[], LONGEST);
-    let text = b"refused 1 at 65536\n";
-    let listed = line_and_buffer("list -1 19 0 0 0 0 1", text, 2 * LONGEST);
-    assert!(lent::answer(&lent_case(0, &long)) == [salvaged, listed].concat());
 }

@@ -126,13 +126,10 @@ impl History {
     fn line(&mut self, call: &Taken) -> Option<String> {
         Some(match (call.kind, &call.numbers[..]) {
             (b'e', &[unit, number, count]) => self.enter(unit, number, count).to_string(),
-            (b'r', &[count, _]) => {
-                let answer = match recording::answer(call.recording) {
-                    Ok(sound) => self.enter(sound.unit, sound.number, count).to_string(),
-                    Err(_) => refused(call.recording),
-                };
-                answer + &told(call.recording)
-            }
+            (b'r', &[count, _]) => match recording::answer(call.recording) {
+                Ok(sound) => self.enter(sound.unit, sound.number, count).to_string(),
+                Err(_) => line_of(call.recording),
+            },
             (b'h', &[unit, number]) => match self.held(unit, number) {
                 Some(count) => format!("held {count}"),
                 None => "not held".to_string(),
@@ -148,63 +145,11 @@ impl History {
     }
 }
 
-/// The numbers of a listing's first line, and how it begins.
-fn first_line(recording: &[u8]) -> (bool, Vec<u32>) {
+/// The line of the listing for a refused recording.
+fn line_of(recording: &[u8]) -> String {
     let text = String::from_utf8(listing::list(recording)).expect("text");
-    let line = text.lines().next().expect("a line");
-    let numbers = line.split(' ').filter_map(|word| word.parse().ok());
-    (line.starts_with("refused "), numbers.collect())
-}
-
-/// The words for a refused recording, by the line of its listing.
-fn refused(recording: &[u8]) -> String {
-    let (refused, numbers) = first_line(recording);
-    assert!(refused);
-    format!("refused {}", numbers[0])
-}
-
-/// What is told of a recording, by the first line of its listing and, where that is refused with 8, by the
-/// bytes at the place.
-fn told(recording: &[u8]) -> String {
-    let numbers = match first_line(recording) {
-        (false, numbers) => [numbers[0], numbers[1], 0, 0, 0],
-        (true, numbers) => {
-            let at = numbers[1];
-            let size = numbers.get(2).copied().unwrap_or(0);
-            match numbers[0] {
-                1 => [0, 0, 0, 0, 1],
-                9 => [0, 0, at, 0, 2],
-                10 => [0, 0, at, 0, 3],
-                11 => [0, 0, at, size, 4],
-                _ => [0, 0, at, 0, cause_of_8(recording, at as usize)],
-            }
-        }
-    };
-    let words = numbers.map(|n| n.to_string()).join(" ");
-    format!(" told {words}")
-}
-
-/// What is wrong at a place where a recording is refused with 8: the blocks before it are gone through, and
-/// none of them is wrong.
-fn cause_of_8(recording: &[u8], place: usize) -> u32 {
-    let mut at = 0;
-    let mut before = Vec::new();
-    while at < place {
-        before.push(recording[at + 4]);
-        let size = &recording[at..at + 4];
-        at += 6 + size
-            .iter()
-            .rev()
-            .fold(0, |sum, &b| sum << 8 | usize::from(b));
-    }
-    let kind = recording.get(place + 4..place + 6);
-    match (before.last(), kind) {
-        (Some(3), _) => 9,
-        _ if place == recording.len() => 7,
-        (Some(2), Some([3, 0])) => 8,
-        (_, Some([1..=3, 0])) => 6,
-        _ => 5,
-    }
+    assert!(text.starts_with("refused "));
+    text.trim_end().to_string()
 }
 
 /// What a program may get wrong.
@@ -245,24 +190,8 @@ enum Fault {
     HeadSwapped,
     HeadTurnedRound,
     RecordingRefusedLast,
+    RecordingPlaceLeftOut,
     RecordingCountIsFrames,
-    NothingTold,
-    ToldOfRefusedAlone,
-    ToldOfSoundAlone,
-    NothingToldOfRefusedEntry,
-    NothingToldOfHeldEntry,
-    KeyToldSwapped,
-    KeyToldOfRefused,
-    PlaceNotTold,
-    SizeNotTold,
-    SizeToldOfOthers,
-    CauseNotTold,
-    CauseCountedFromZero,
-    CausesOf8AsOne,
-    EndMissingOutOfTurn,
-    NoHeadUnknown,
-    EndTooEarlyWrong,
-    AfterTheEndUnknown,
     ColumnsSwapped,
     MoreForgotten,
     MoreForAll,
@@ -272,7 +201,7 @@ enum Fault {
     LaidWithoutStep,
 }
 
-const FAULTS: [Fault; 59] = [
+const FAULTS: [Fault; 43] = [
     Fault::LastCountKept,
     Fault::LastCountKeptAndEntered,
     Fault::SameCountedTwice,
@@ -307,24 +236,8 @@ const FAULTS: [Fault; 59] = [
     Fault::HeadSwapped,
     Fault::HeadTurnedRound,
     Fault::RecordingRefusedLast,
+    Fault::RecordingPlaceLeftOut,
     Fault::RecordingCountIsFrames,
-    Fault::NothingTold,
-    Fault::ToldOfRefusedAlone,
-    Fault::ToldOfSoundAlone,
-    Fault::NothingToldOfRefusedEntry,
-    Fault::NothingToldOfHeldEntry,
-    Fault::KeyToldSwapped,
-    Fault::KeyToldOfRefused,
-    Fault::PlaceNotTold,
-    Fault::SizeNotTold,
-    Fault::SizeToldOfOthers,
-    Fault::CauseNotTold,
-    Fault::CauseCountedFromZero,
-    Fault::CausesOf8AsOne,
-    Fault::EndMissingOutOfTurn,
-    Fault::NoHeadUnknown,
-    Fault::EndTooEarlyWrong,
-    Fault::AfterTheEndUnknown,
     Fault::ColumnsSwapped,
     Fault::MoreForgotten,
     Fault::MoreForAll,
@@ -479,69 +392,25 @@ impl Scan {
         }
         let sound = recording::answer(bytes);
         let row = self.rows().min(MOST - 1);
-        let answer = match (sound, self.fault) {
+        match (sound, self.fault) {
             (Ok(sound), Fault::RecordingCountIsFrames) => self.enter((unit, number, sound.frames)),
             (Ok(_), _) => self.enter((unit, number, count)),
             (Err(_), Fault::RefusedRecordingWrites) => {
                 self.write(row, (unit, number, count));
-                refused(bytes)
+                line_of(bytes)
             }
             (Err(_), Fault::RefusedRecordingEntered) => {
                 self.enter((unit, number, count));
-                refused(bytes)
+                line_of(bytes)
             }
             (Err(_), Fault::RecordingRefusedLast) => match self.find((unit, number)) {
                 Some(found) if self.row(found).2 != count => "refused 13".to_string(),
                 None if self.rows() == MOST => "refused 14".to_string(),
-                _ => refused(bytes),
+                _ => line_of(bytes),
             },
-            (Err(_), _) => refused(bytes),
-        };
-        let told = self.told(bytes, sound.is_ok(), &answer, (unit, number));
-        answer + &told
-    }
-
-    /// What is told of a recording.
-    fn told(&self, bytes: &[u8], sound: bool, answer: &str, key: (u32, u32)) -> String {
-        let right = told(bytes);
-        let words: Vec<&str> = right.split(' ').skip(2).collect();
-        let [unit, number, place, size, cause] = words[..] else {
-            panic!("five numbers, not {right}");
-        };
-        let (unit_read, number_read) = (key.0.to_string(), key.1.to_string());
-        let [unit, number, place, size, cause] = match (self.fault, sound) {
-            (Fault::NothingTold, _) => return String::new(),
-            (Fault::ToldOfRefusedAlone, true) | (Fault::ToldOfSoundAlone, false) => {
-                return String::new()
-            }
-            (Fault::NothingToldOfRefusedEntry, true) if answer.starts_with("refused") => ["0"; 5],
-            (Fault::NothingToldOfHeldEntry, true) if answer == "already held" => ["0"; 5],
-            (Fault::KeyToldSwapped, _) => [number, unit, place, size, cause],
-            (Fault::KeyToldOfRefused, false) => [&unit_read, &number_read, place, size, cause],
-            (Fault::PlaceNotTold, _) => [unit, number, "0", size, cause],
-            (Fault::SizeNotTold, _) => [unit, number, place, "0", cause],
-            (Fault::SizeToldOfOthers, false) if cause != "1" && cause != "4" => {
-                [unit, number, place, "18", cause]
-            }
-            (Fault::CauseNotTold, _) => [unit, number, place, size, "0"],
-            (Fault::CauseCountedFromZero, false) => {
-                let less = (cause.parse::<u32>().expect("a number") - 1).to_string();
-                return format!(" told {unit} {number} {place} {size} {less}");
-            }
-            (Fault::CausesOf8AsOne, false) if cause > "5" => [unit, number, place, size, "5"],
-            (Fault::EndMissingOutOfTurn, false) if cause == "7" => [unit, number, place, size, "6"],
-            (Fault::NoHeadUnknown, false) if (cause, place) == ("6", "0") => {
-                [unit, number, place, size, "5"]
-            }
-            (Fault::EndTooEarlyWrong, false)
-                if cause == "6" && bytes.get(18..20) == Some(&[3, 0]) =>
-            {
-                [unit, number, place, size, "8"]
-            }
-            (Fault::AfterTheEndUnknown, false) if cause == "9" => [unit, number, place, size, "5"],
-            _ => [unit, number, place, size, cause],
-        };
-        format!(" told {unit} {number} {place} {size} {cause}")
+            (Err(refusal), Fault::RecordingPlaceLeftOut) => format!("refused {}", refusal.number),
+            (Err(_), _) => line_of(bytes),
+        }
     }
 
     fn total(&mut self, unit: u32) -> u64 {
@@ -745,11 +614,11 @@ fn worked_lines() {
         "entered",
         "already held",
         "refused 13",
-        "already held told 7 1 0 0 0",
-        "refused 13 told 7 1 0 0 0",
-        "refused 10 told 0 0 14 0 3",
-        "refused 8 told 0 0 0 0 7",
-        "refused 11 told 0 0 0 7 4",
+        "already held",
+        "refused 13",
+        "refused 10 at 14",
+        "refused 8 at 0",
+        "refused 11 at 0 7",
         "held 100",
         "not held",
         "total 100",
@@ -765,80 +634,6 @@ fn worked_lines() {
         "not held",
     ];
     assert_eq!(said(&calls.0), lines);
-}
-
-#[test]
-fn what_is_told_of_a_recording() {
-    let frames = cases::spoken(3, 2);
-    let sound = cases::sound(7, 1, &[&frames[..1], &frames[1..]]);
-    assert_eq!(sound.len(), 72);
-    let changed = |at: usize, to: u8| {
-        let mut bytes = sound.clone();
-        bytes[at] = to;
-        bytes
-    };
-    let [head, voice, end] = [&sound[..14], &sound[14..38], &sound[62..]];
-    let unknown = changed(42, 9);
-    let second_head = [head, voice, head].concat();
-    let end_first = [head, end].concat();
-    let after_the_end = [&sound[..], end].concat();
-    let mut long = sound.clone();
-    let mut calls = Calls::default();
-    calls.lay(0, 1, 4_096, 0);
-    calls.enter_recording(5, &sound);
-    calls.clear();
-    for count in [5, 5, 6] {
-        calls.enter_recording(count, &sound);
-    }
-    for length in [65_536, 65_537, 65_538] {
-        long.resize(length, 0);
-        calls.enter_recording(5, &long);
-    }
-    for recording in [
-        &[1][..],
-        &sound[..67],
-        &sound[..61],
-        &changed(38, 1),
-        &changed(0, 7),
-        &unknown,
-        &sound[14..],
-        &second_head,
-        &end_first,
-        &[],
-        &sound[..38],
-        &changed(68, 1),
-        &after_the_end,
-    ] {
-        calls.enter_recording(5, recording);
-    }
-    let lines = [
-        "refused 14 told 7 1 0 0 0",
-        "cleared",
-        "entered told 7 1 0 0 0",
-        "already held told 7 1 0 0 0",
-        "refused 13 told 7 1 0 0 0",
-        "refused 8 told 0 0 72 0 9",
-        "refused 1 told 0 0 0 0 1",
-        "refused 1 told 0 0 0 0 1",
-        "refused 9 told 0 0 0 0 2",
-        "refused 9 told 0 0 62 0 2",
-        "refused 10 told 0 0 38 0 3",
-        "refused 11 told 0 0 38 1 4",
-        "refused 11 told 0 0 0 7 4",
-        "refused 8 told 0 0 38 0 5",
-        "refused 8 told 0 0 0 0 6",
-        "refused 8 told 0 0 38 0 6",
-        "refused 8 told 0 0 14 0 6",
-        "refused 8 told 0 0 0 0 7",
-        "refused 8 told 0 0 38 0 7",
-        "refused 8 told 0 0 62 0 8",
-        "refused 8 told 0 0 72 0 9",
-    ];
-    assert_eq!(said(&calls.0), lines);
-    // The parts of the largest key, the unit first.
-    let mut calls = Calls::default();
-    calls.enter_recording(1, &cases::sound(MAX, MAX - 1, &[&frames]));
-    assert_eq!(said(&calls.0), ["entered told 4294967295 4294967294 0 0 0"]);
 }
 
 #[test]
@@ -975,50 +770,37 @@ fn a_history_is_its_list_of_accepted_calls() {
             .collect();
         same(&lines, &expected);
         compared += lines.len();
-        kinds.extend(lines.iter().map(|line| kind_of(line)));
+        kinds.extend(
+            lines
+                .iter()
+                .map(|line| line.replace(|c: char| c.is_numeric(), "")),
+        );
+        kinds.extend(
+            lines
+                .into_iter()
+                .filter(|line| line.starts_with("refused 1")),
+        );
     }
     assert!(compared > 60_000, "{compared}");
-    for line in ["entered", "already held", "refused 13", "refused 14"] {
-        assert!(kinds.contains(line), "{line}");
-        assert!(kinds.contains(&format!("{line} told 0")), "{line}");
-    }
-    for line in ["held", "not held", "total", "entries", "cleared"] {
-        assert!(kinds.contains(line), "{line}");
-    }
     for line in [
-        "refused 1 told 1",
-        "refused 9 told 2",
-        "refused 10 told 3",
-        "refused 11 told 4",
-        "refused 8 told 5",
-        "refused 8 told 6",
-        "refused 8 told 7",
-        "refused 8 told 8",
-        "refused 8 told 9",
+        "entered",
+        "already held",
+        "refused 13",
+        "refused 14",
+        "refused 1 at 65536",
     ] {
         assert!(kinds.contains(line), "{line}");
     }
-}
-
-/// The words of a line, the number of a refusal, and the last of the numbers that are told.
-fn kind_of(line: &str) -> String {
-    let (answer, told) = match line.split_once(" told ") {
-        Some((answer, told)) => (answer, told.split(' ').next_back()),
-        None => (line, None),
-    };
-    let words = match answer.strip_prefix("refused ") {
-        Some(_) => answer,
-        None => answer.trim_end_matches(|c: char| c.is_numeric()).trim_end(),
-    };
-    match told {
-        Some(cause) => format!("{words} told {cause}"),
-        None => words.to_string(),
+    for line in [
+        "held ",
+        "not held",
+        "total ",
+        "entries ",
+        "cleared",
+        "refused  at  ",
+    ] {
+        assert!(kinds.contains(line), "{line}");
     }
-}
-
-/// The answer of a line, without what is told.
-fn answer_of(line: &str) -> &str {
-    line.split_once(" told ").map_or(line, |(answer, _)| answer)
 }
 
 #[test]
@@ -1081,30 +863,22 @@ fn what_is_not_entered_leaves_every_word() {
                 _ => lines.next().expect("a line for each call"),
             };
             let words = lines.next().expect("all words");
-            match answer_of(&answer) {
+            match &answer[..] {
                 "laid" | "cleared" => {}
                 "entered" => assert_ne!(words, before),
                 _ => assert_eq!(words, before, "{answer}"),
             }
             before = words;
-            kinds.insert(kind_of(&answer));
+            let no_numbers = answer.replace(|c: char| c.is_numeric(), "");
+            kinds.extend([no_numbers, answer[..answer.len().min(10)].to_string()]);
         }
     }
     for kind in [
         "refused 13",
         "refused 14",
+        "refused  at ",
+        "refused  at  ",
         "already held",
-        "refused 13 told 0",
-        "refused 14 told 0",
-        "already held told 0",
-        "refused 9 told 2",
-        "refused 10 told 3",
-        "refused 11 told 4",
-        "refused 8 told 5",
-        "refused 8 told 6",
-        "refused 8 told 7",
-        "refused 8 told 8",
-        "refused 8 told 9",
     ] {
         assert!(kinds.contains(kind), "{kind}");
     }
@@ -1122,22 +896,16 @@ fn two_orders_of_the_same_calls_say_the_same() {
             let (before, after) = lines.split_at(lines.len() - count);
             assert!(before
                 .iter()
-                .all(|l| !["refused 13", "refused 14"].contains(&answer_of(l))));
+                .all(|l| l != "refused 13" && l != "refused 14"));
             (before.to_vec(), after.to_vec())
         });
         assert_eq!(first.1, second.1);
-        // The answers are the same but for their order, and so is what is told: which answer a recording
-        // gets goes by the order.
-        let sorted = |lines: &[String]| {
-            let mut answers: Vec<String> = lines.iter().map(|l| answer_of(l).to_string()).collect();
-            let told = lines.iter().filter_map(|l| l.split_once(" told "));
-            let mut told: Vec<String> = told.map(|(_, told)| told.to_string()).collect();
-            answers.sort();
-            told.sort();
-            (answers, told)
+        let sorted = |mut lines: Vec<String>| {
+            lines.sort();
+            lines
         };
         differ_before += usize::from(first.0 != second.0);
-        assert_eq!(sorted(&first.0), sorted(&second.0));
+        assert_eq!(sorted(first.0), sorted(second.0));
         asked += count;
     }
     assert!(
@@ -1191,13 +959,7 @@ fn calls_are_cut_where_they_are() {
     whole.more(1);
     whole.entries();
     let ends = [13, 22, 27, 102, 125];
-    let lines = [
-        "entered",
-        "held 5",
-        "total 5",
-        "already held told 7 1 0 0 0",
-        "entries 0",
-    ];
+    let lines = ["entered", "held 5", "total 5", "already held", "entries 0"];
     assert_eq!(whole.0.len(), 125);
     for length in 0..=whole.0.len() {
         let made = ends.iter().filter(|&&end| end <= length).count();

@@ -3,6 +3,7 @@ ghost use Rattle.std.specs.Prelude.{◌<◌};
 
 use crate::said::Said;
 use crate::words;
+use tally::{Entering, Entry};
 
 // How many bytes stand behind the byte of a call's kind; of no kind more than any input has.
 pub fn size(kind: u8, rest: &[u8]) -> usize {
@@ -28,16 +29,11 @@ fn recording_size(rest: &[u8]) -> usize {
 // What a call answers.
 pub fn make(book: &mut [u32; tally::WORDS], kind: u8, numbers: &[u8]) -> Said {
     match kind {
-        b'e' => Said::Entered(ledger::oatlantern_tally_enter(
-            book,
-            word(numbers, 0),
-            word(numbers, 4),
-            word(numbers, 8),
-        )),
+        b'e' => Said::Entering(Entering::Done(entering::enter(book, entry(numbers)))),
         b'r' => recording(book, numbers),
-        b'h' => held(book, word(numbers, 0), word(numbers, 4)),
-        b't' => Said::Total(ledger::oatlantern_tally_total(book, word(numbers, 0))),
-        b'n' => Said::Entries(ledger::oatlantern_tally_entries(book)),
+        b'h' => Said::Held(asking::ask(book, word(numbers, 0), word(numbers, 4))),
+        b't' => Said::Total(tally::total(book, word(numbers, 0))),
+        b'n' => Said::Entries(tally::entries(book)),
         b'd' => Said::Book(words::as_one(book)),
         b'w' => {
             words::lay(
@@ -59,21 +55,16 @@ pub fn make(book: &mut [u32; tally::WORDS], kind: u8, numbers: &[u8]) -> Said {
 // Enters the recording of a call.
 fn recording(book: &mut [u32; tally::WORDS], numbers: &[u8]) -> Said {
     let start = text::least(8, numbers.len());
-    let mut told = [9usize; 5];
-    let result = ledger::oatlantern_tally_enter_recording(
-        book,
-        &numbers[start..],
-        word(numbers, 0),
-        &mut told,
-    );
-    Said::Recording(result, told[0], told[1], told[2], told[3], told[4])
+    Said::Entering(entering::enter_recording(book, &numbers[start..], word(numbers, 0)))
 }
 
-// Asks for a key.
-fn held(book: &[u32; tally::WORDS], unit: u32, number: u32) -> Said {
-    let mut count = [9u32; 1];
-    let result = ledger::oatlantern_tally_held(book, unit, number, &mut count);
-    Said::Held(result, count[0])
+// The entry of a call.
+fn entry(numbers: &[u8]) -> Entry {
+    Entry {
+        unit: word(numbers, 0),
+        number: word(numbers, 4),
+        count: word(numbers, 8),
+    }
 }
 
 // Four bytes from a place on as a number, the lowest first; those that are not there are 0.

@@ -1,12 +1,14 @@
 // The numbers of a case, each with its lowest byte first.
 ghost use Rattle.std.specs.Prelude.{◌<◌};
 
+use excitation::Register;
+
 // The register: 147 signed numbers from place 4 on.
-pub fn register(given: &[u8]) -> [i32; 147] {
-    let mut register = [0i32; 147];
+pub fn register(given: &[u8]) -> Register {
+    let mut register = Register::silent();
     let mut i = 0;
     while i < 147 {
-        register[i] = signed(word(given, 4 + 4 * i));
+        register.elements[i] = signed(word(given, 4 + 4 * i));
         i += 1;
     }
     register

@@ -1,8 +1,8 @@
--- `lent::listed_in` is safe: what is lent is within the buffer.
+-- `lent_for_c::listed_in` is safe: what is lent is within the buffer.
 use mathlib.Core.Path.{sym}
 use native.Mathlib.Omega.{arith}
 use lib.Seq.{length-take-le}
-use Rattle.lent.proofs.listed_in.Goals as goal
+use Rattle.lent_for_c.proofs.listed_in.Goals as goal
 
 pub slice_bounds-listed-end-2 : goal.slice_bounds-listed-end-2
 slice_bounds-listed-end-2 c = sym (length-take-le _ _ (omega (arith, c.least-long.ensures)))
