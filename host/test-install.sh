@@ -322,7 +322,7 @@ cp "$copy/crates/list/src/main.rt" "$tmp/main.rt"
 echo "$spoil" >> "$copy/crates/list/src/main.rt"
 printf '#!/bin/sh\necho stale\n' > "$copy/crates/list/out/list"
 fails "an unproved program is installed" make -C "$copy/host" install PREFIX="$copy/installed"
-holds "rt's words are not shown" grep -q 'list NOT PROVED' "$tmp/said"
+holds "rt's words are not shown" grep -q 'only a proved crate is built' "$tmp/said"
 fails "something is installed though a program is not proved" test -e "$copy/installed"
 # proved again, it is made again
 cp "$tmp/main.rt" "$copy/crates/list/src/main.rt"
