@@ -28,9 +28,11 @@ PAGES = ["README.md", "CHANGELOG.md", "docs/*.md", "docs/landings/*.md", "sample
 MANUAL = ["host/*.1", "host/*.3"]
 NAMING = ["README.md", "docs/HANDBOOK.md", "docs/CHANGING.md", "samples/README.md"]
 SHOWING = {"README.md": ["list", "salvage", "tally", "decode"], "docs/HANDBOOK.md": ["list", "hear", "salvage", "excite", "sheet", "tally"],
-           "samples/README.md": ["list", "salvage"], "host/oatlantern.1": ["list", "hear", "salvage", "excite", "decode", "tally"]}
+           "samples/README.md": ["list", "salvage"], "host/oatlantern.1": ["list", "hear", "salvage", "excite", "decode", "tally"],
+           "host/oatlantern-list.1": ["list"], "host/oatlantern-hear.1": ["hear"], "host/oatlantern-salvage.1": ["salvager"],
+           "host/oatlantern-excite.1": ["excite"], "host/oatlantern-decode.1": ["oatlantern-decode"]}
 NOT_RUN = re.compile(r"rt |\(cd crates/\w+ && rt |\.ci/run|cargo |make |cc |git |samples/make\.py |\.ci/prose\.py|python3 ")
-RUN = re.compile(r"(\./run (?:target/host|crates/\w+/out)/\S+|oatlantern \w+|rm -f target/[\w-]+\.book|sqlite3 -readonly target/[\w-]+\.book|head|sed -n|cut|tail|od|wc|cmp|diff|printf|echo)(\b|$)")
+RUN = re.compile(r"(\./run (?:target/host|crates/\w+/out)/\S+|oatlantern[ -]\w+|rm -f target/[\w-]+\.book|sqlite3 -readonly target/[\w-]+\.book|head|sed -n|cut|tail|od|wc|cmp|diff|printf|echo)(\b|$)")
 TALLIED = (r"held \d+|total \d+|entries \d+|book \d+|(?:entered|already held|held|\d+) unit \d+ recording \d+ count \d+|not held unit \d+ recording \d+"
            r"|unit \d+ (?:recordings \d+ )?total \d+|entries \d+ total \d+|merged \d+ entered, \d+ already held, \d+ refused")
 CHANGE = r"dropped \d+ bytes from \d+|kept \d+ frames|end written at \d+"
@@ -120,7 +122,10 @@ def blocks(path):
 
 
 def built(command):
-    """The command with the program where it is built."""
+    """The command with the programs where they are built."""
+    command = re.sub(r"\boatlantern-(list|hear|excite)\b", r"./run crates/\1/out/\1", command)
+    command = re.sub(r"\boatlantern-salvage\b", r"./run crates/salvager/out/salvager", command)
+    command = re.sub(r"(?<!/)\boatlantern-(decode|encode)\b", r"./run target/host/oatlantern-\1", command)
     return re.sub(r"(?<![/\w-])oatlantern (?=\w)", "./run target/host/oatlantern ", command)
 
 
@@ -162,7 +167,7 @@ for path in pages(PAGES) + pages(MANUAL):
             written = [file for file in re.findall(r">\s*([^\s&|]+)", command) if not re.match(r"target/[\w-]+\.rec$|/dev/null$", file)]
             hold(not written, path, n, f"`{command}` writes {written}")
             run = built(file_of(path, command))
-            showing.update((path, program) for program in re.findall(r"\./run (?:target/host/oatlantern |crates/\w+/out/)([\w-]+)", run))
+            showing.update((path, program) for program in re.findall(r"\./run (?:target/host/oatlantern |target/host/(?=oatlantern-)|crates/\w+/out/)([\w-]+)", run))
             if written or independent and re.search(r"target/host/|target/[\w-]+\.(?:book|rec)|crates/\w+/out/(list|hear|excite|salvager?) +[^<>|\s]", run):
                 # the independent program's words are not the command's, but what it lists is
                 if not written and re.search(r"\| \./run target/host/oatlantern (list|hear|excite)$", run):

@@ -1,9 +1,10 @@
 #!/usr/bin/env python3
-"""Makes the archive for C: proves each of its parts with rt, and puts the object file of each together.
+"""Makes the archive for C, and the programs in Rattle: proves each of the crates with rt, and takes what rt makes of it.
 
-    archive.py ARCHIVE CRATE..    beside the archive it leaves CRATE.o of each part, and what that was made from (CRATE.made)
+    archive.py ARCHIVE CRATE..       beside the archive it leaves CRATE.o of each part, and what that was made from (CRATE.made)
+    archive.py --programs FOLDER CRATE..    rt leaves each program as crates/CRATE/out/CRATE; FOLDER has what it was made from
 
-rt is asked for a part where the kit, the sources of the part and of the crates below it, or the object file are other than when it was
+rt is asked for a crate where the kit, the sources of the crate and of those below it, or what was made are other than when it was
 made last; where a crate is not proved, what rt says is shown, and nothing is made. ARCHIVE is written only where it changes. AR names what
 makes it.
 """
@@ -58,35 +59,51 @@ def replace(path, data):
     os.replace(new, path)
 
 
-def part(crate, folder, kit):
-    """The object file of a part, made anew where it has to be."""
-    made, stamp = folder / f"{crate}.o", folder / f"{crate}.made"
+def anew(crate, folder, kit, made, verb, take):
+    """What rt makes of a crate: asks it by its verb where that has to be made anew, and takes it to its place."""
+    stamp = folder / f"{crate}.made"
     if not stamp.is_file() or stamp.read_text(encoding="utf-8") != sum_of(crate, kit, made):
         stamp.unlink(missing_ok=True)
         made.unlink(missing_ok=True)
         before = sum_of(crate, kit, made)
         log = folder / f"{crate}.log"
         with log.open("wb") as out:
-            done = subprocess.run(["rt", "lib"], cwd=ROOT / "crates" / crate, stdin=subprocess.DEVNULL, stdout=out, stderr=subprocess.STDOUT, check=False)
+            done = subprocess.run(["rt", verb], cwd=ROOT / "crates" / crate, stdin=subprocess.DEVNULL, stdout=out, stderr=subprocess.STDOUT, check=False)
         if done.returncode:
             sys.exit(f"{log.read_text(encoding='utf-8', errors='replace')}\nhost/archive.py: {crate} is not proved, and nothing is made")
-        library = ROOT / "crates" / crate / "out" / f"lib{crate}.a"
-        replace(made, subprocess.run([AR, "p", library, f"{crate}.o"], stdout=subprocess.PIPE, check=True).stdout)
+        take()
         if sum_of(crate, kit, Path(os.devnull)) == before:
             replace(stamp, sum_of(crate, kit, made).encode())
     return made
 
 
+def part(crate, folder, kit):
+    """The object file of a part of the archive."""
+    made, library = folder / f"{crate}.o", ROOT / "crates" / crate / "out" / f"lib{crate}.a"
+    return anew(crate, folder, kit, made, "lib", lambda: replace(made, subprocess.run([AR, "p", library, f"{crate}.o"], stdout=subprocess.PIPE, check=True).stdout))
+
+
+def program(crate, folder, kit):
+    """A program, where rt leaves it. rt runs it too, on an empty input."""
+    return anew(crate, folder, kit, ROOT / "crates" / crate / "out" / crate, "run", lambda: None)
+
+
 def main():
-    archive, crates = Path(sys.argv[1]).absolute(), sys.argv[2:]
-    if not crates:
+    words = sys.argv[1:]
+    programs = words[:1] == ["--programs"]
+    if len(words) < 2 + programs:
         sys.exit(__doc__)
-    folder = archive.parent
+    archive, crates = Path(words[programs]).absolute(), words[1 + programs :]
+    folder = archive if programs else archive.parent
     folder.mkdir(parents=True, exist_ok=True)
     kit = subprocess.run(["rt", "version"], stdout=subprocess.PIPE, check=True).stdout
     # one at a time, also where two of these run at once
     with (folder / "archive.lock").open("w") as lock:
         fcntl.flock(lock, fcntl.LOCK_EX)
+        if programs:
+            for crate in crates:
+                program(crate, folder, kit)
+            return
         parts = [part(crate, folder, kit) for crate in crates]
         new = archive.with_name(archive.name + ".new")
         new.unlink(missing_ok=True)

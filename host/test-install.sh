@@ -1,6 +1,6 @@
 #!/bin/sh
 # Installs into a temporary prefix, builds a small program in C and in C++ against what was installed, by way of pkg-config, and
-# runs it; once more after the tree was moved. Tries the names of the command, the manual pages and their examples, the
+# runs it; once more after the tree was moved. Tries the programs and the command, the manual pages and their examples, the
 # completion, other folders, DESTDIR and uninstall. Then, in a copy of the repository: where a crate is not proved nothing is
 # built and nothing installed; what is missing on a machine is named; and the README's lines for C, on x86-64 once more as on
 # another kind of machine. Needs pkg-config. Silent but for the last line; exit status 1 at the first fault.
@@ -47,8 +47,7 @@ says() {
 command -v pkg-config > /dev/null || fail "pkg-config is not there (Debian: apt-get install pkg-config)"
 functions=$(sed -n 's/^[a-z].*[ *]\(oatlantern_[a-z_]*\)(.*/\1/p' ../include/oatlantern.h)
 version=$(sed -n 's/^.define OATLANTERN_VERSION "\(.*\)"$/\1/p' ../include/oatlantern.h)
-# each was a program of its own, and is still reached by that name
-names='list hear salvage excite decode encode'
+programs='decode encode list hear salvage excite'
 crates=$(sed -n 's/^CRATES = //p' Makefile)
 
 # ---- What is installed ----
@@ -59,10 +58,17 @@ for f in lib/liboatlantern.a lib/pkgconfig/oatlantern.pc include/oatlantern.h sh
     holds "$f was not installed" test -f "$tmp/usr/$f"
 done
 holds "oatlantern was not installed" test -x "$tmp/usr/bin/oatlantern"
-holds "oatlantern is not what was built" cmp ../target/host/oatlantern "$tmp/usr/bin/oatlantern"
-for n in $names; do
-    says "oatlantern-$n" oatlantern readlink "$tmp/usr/bin/oatlantern-$n"
-    says "oatlantern-$n.1" '.so man1/oatlantern.1' cat "$tmp/usr/share/man/man1/oatlantern-$n.1"
+for p in $programs; do
+    holds "oatlantern-$p was not installed" test -x "$tmp/usr/bin/oatlantern-$p"
+    fails "oatlantern-$p is a link" test -h "$tmp/usr/bin/oatlantern-$p"
+    holds "oatlantern-$p.1 was not installed" cmp oatlantern-$p.1 "$tmp/usr/share/man/man1/oatlantern-$p.1"
+done
+for p in oatlantern oatlantern-decode oatlantern-encode; do
+    holds "$p is not what was built" cmp "../target/host/$p" "$tmp/usr/bin/$p"
+done
+# of those in Rattle: the crate, and the name
+for p in list:list hear:hear salvager:salvage excite:excite; do
+    holds "oatlantern-${p#*:} is not what rt built" cmp "../crates/${p%:*}/out/${p%:*}" "$tmp/usr/bin/oatlantern-${p#*:}"
 done
 says "other files in bin" 7 sh -c 'ls "$0" | wc -l' "$tmp/usr/bin"
 says "the members of the archive" "$(echo "$crates" | tr ' ' '\n' | sed 's/$/.o/')" "$AR" t "$tmp/usr/lib/liboatlantern.a"
@@ -71,11 +77,12 @@ exported=$(cd .. && for c in $crates; do sed -n 's/^pub extern "C" fn \([a-z_]*\
 says "the names in the archive" "$exported" sh -c '"$0" -g --defined-only "$1" | sed -n "s/^[0-9a-f]* [A-Za-z] //p" | LC_ALL=C sort' \
     "$NM" "$tmp/usr/lib/liboatlantern.a"
 
-# what is installed anew takes the place of what was there, also of a program under an old name
-rm "$tmp/usr/bin/oatlantern-list"
-cp ../run "$tmp/usr/bin/oatlantern-list"
+# what is installed anew takes the place of what was there, also of a link to the command
+ln -sf oatlantern "$tmp/usr/bin/oatlantern-list"
 holds "make install once more" make install PREFIX="$tmp/usr"
-says "oatlantern-list once more" oatlantern readlink "$tmp/usr/bin/oatlantern-list"
+fails "oatlantern-list once more is a link" test -h "$tmp/usr/bin/oatlantern-list"
+holds "oatlantern-list once more" cmp ../crates/list/out/list "$tmp/usr/bin/oatlantern-list"
+holds "oatlantern once more" cmp ../target/host/oatlantern "$tmp/usr/bin/oatlantern"
 
 # ---- The manual pages ----
 
@@ -87,24 +94,22 @@ for f in $functions; do
     says "$f.3" '.so man3/oatlantern.3' cat "$tmp/usr/share/man/man3/$f.3"
 done
 if command -v man > /dev/null; then
-    for f in oatlantern oatlantern_read_frame oatlantern_tally_count; do
-        man -M "$tmp/usr/share/man" 3 $f > "$tmp/page" 2> "$tmp/log" || fail "man 3 $f"
+    for f in oatlantern $functions; do
+        man -M "$tmp/usr/share/man" 3 "$f" > "$tmp/page" 2> "$tmp/log" || fail "man 3 $f"
         holds "man 3 $f" grep -q 'int32_t oatlantern_read_frame' "$tmp/page"
     done
-    for n in oatlantern oatlantern-list; do
-        man -M "$tmp/usr/share/man" 1 $n > "$tmp/page" 2> "$tmp/log" || fail "man 1 $n"
-        holds "man 1 $n" grep -q 'oatlantern salvage \[in \[out\]\]' "$tmp/page"
-    done
-    # no word of troff's about either page
+    man -M "$tmp/usr/share/man" 1 oatlantern > "$tmp/page" 2> "$tmp/log" || fail "man 1 oatlantern"
+    holds "man 1 oatlantern" grep -q 'oatlantern salvage \[in \[out\]\]' "$tmp/page"
+    # no word of troff's about any page
     if command -v troff > /dev/null; then
-        for page in oatlantern.1 oatlantern.3; do
+        for page in *.1 oatlantern.3; do
             says "$page has faults" "" sh -c 'man -l --warnings "$0" 2>&1 > /dev/null' $page
         done
     fi
 fi
 
 # the page has each subcommand, and what tally does
-for n in $names tally; do
+for n in $programs tally; do
     holds "$n is not in the synopsis of oatlantern.1" grep -qx ".B oatlantern $n" oatlantern.1
     holds "$n has no section in oatlantern.1" grep -qx ".SS $n" oatlantern.1
 done
@@ -119,12 +124,46 @@ shown() {
         sed -e 's/^    //' -e 's/\\-/-/g' -e 's/\\e/\\/g'
 }
 
-# the command by its name, whatever runs it
+# the programs and the command by their names, whatever runs them
 mkdir "$tmp/path"
-printf '#!/bin/sh\nexec "%s" "%s" "$@"\n' "$run" "$tmp/usr/bin/oatlantern" > "$tmp/path/oatlantern"
-chmod +x "$tmp/path/oatlantern"
+for p in oatlantern $(for p in $programs; do echo oatlantern-$p; done); do
+    printf '#!/bin/sh\nexec "%s" "%s" "$@"\n' "$run" "$tmp/usr/bin/$p" > "$tmp/path/$p"
+    chmod +x "$tmp/path/$p"
+done
 
-# each example of the page: commands and what they print, as from the top of the repository; one that shows nothing is passed over
+# each example of a program's page: a command and what it prints, from the top of the repository; one that shows nothing is passed
+# over
+examples=0
+for p in $programs; do
+    n=1
+    while shown oatlantern-$p.1 $n > "$tmp/example" && [ -s "$tmp/example" ]; do
+        n=$((n + 1))
+        sed -n '1s/^\$ //p' "$tmp/example" > "$tmp/command"
+        sed 1d "$tmp/example" > "$tmp/wanted"
+        [ -s "$tmp/command" ] || fail "oatlantern-$p.1: an example that is no command"
+        [ -s "$tmp/wanted" ] || continue
+        (cd "$root" && PATH="$tmp/path:$PATH" sh "$tmp/command") > "$tmp/got" 2>&1 || :
+        holds "oatlantern-$p.1: $(cat "$tmp/command")" diff "$tmp/wanted" "$tmp/got"
+        examples=$((examples + 1))
+    done
+done
+[ $examples -ge 14 ] || fail "only $examples examples were found on the programs' pages"
+
+# the programs in Rattle say by their installed names what is wrong around them, and write nothing
+for p in list hear salvage excite; do
+    usage="usage: oatlantern-$p <recording"
+    [ $p != salvage ] || usage="$usage >salvaged"
+    says "$p: an argument" "$usage" sh -c '"$0" FILE 2>&1 < "$1"' "$tmp/path/oatlantern-$p" "$root/samples/dropped-later.rec"
+    says "$p: an input that cannot be read" "oatlantern-$p: standard input cannot be read" \
+        sh -c '"$0" 2>&1 < .' "$tmp/path/oatlantern-$p"
+    for output in '>&-' '> /dev/full'; do
+        [ "$output" = '>&-' ] || [ -e /dev/full ] || continue
+        says "$p: $output" "oatlantern-$p: standard output cannot be written" \
+            sh -c "\"\$0\" 2>&1 < \"\$1\" $output" "$tmp/path/oatlantern-$p" "$root/samples/dropped-later.rec"
+    done
+done
+
+# each example of the command's page: commands and what they print, as from the top of the repository; one that shows nothing is passed over
 mkdir -p "$tmp/top/target"
 ln -s "$root/samples" "$tmp/top/samples"
 examples=0 n=1
@@ -138,12 +177,12 @@ while shown oatlantern.1 $n > "$tmp/example" && [ -s "$tmp/example" ]; do
     sed -n 's/.*\boatlantern \([a-z]*\).*/\1/p' "$tmp/command" >> "$tmp/tried"
     examples=$((examples + 1))
 done
-[ $examples -ge 17 ] || fail "only $examples examples were found"
+[ $examples -ge 17 ] || fail "only $examples examples were found on the command's page"
 for p in list hear salvage excite decode encode tally; do
     holds "oatlantern.1 has no example of $p" grep -qx $p "$tmp/tried"
 done
 
-# the old names, from what was installed
+# three of the programs, from what was installed
 for n in list hear excite; do
     says "oatlantern-$n" "$(cat ../samples/sound.$n)" sh -c '"$0" "$1" < ../samples/sound.rec' "$run" "$tmp/usr/bin/oatlantern-$n"
 done
@@ -271,16 +310,34 @@ says "uninstall leaves files" "" find "$tmp/stage" ! -type d
 copy=$tmp/copy
 mkdir -p "$copy/target"
 (cd "$root" && tar -c --exclude='crates/*/out' crates crates.txt host include run README.md CHANGELOG.md target/host) | tar -x -C "$copy"
+for p in list hear salvager excite; do
+    mkdir "$copy/crates/$p/out"
+    cp -p "../crates/$p/out/$p" "$copy/crates/$p/out"
+done
+# a function that no one proves: its sum may be too large
+spoil='fn unproved(a: u8) -> u8 { a + 1 }'
 
-# one of the crates that the archive calls is not proved, for it has a function that no one proves, whose sum may be too large:
-# nothing is built, and nothing installed
-rm "$copy/target/host/oatlantern"
+# what rt built is replaced, and the program's crate is not proved: nothing is installed
+cp "$copy/crates/list/src/main.rt" "$tmp/main.rt"
+echo "$spoil" >> "$copy/crates/list/src/main.rt"
+printf '#!/bin/sh\necho stale\n' > "$copy/crates/list/out/list"
+fails "an unproved program is installed" make -C "$copy/host" install PREFIX="$copy/installed"
+holds "rt's words are not shown" grep -q 'only a proved crate is built' "$tmp/said"
+fails "something is installed though a program is not proved" test -e "$copy/installed"
+# proved again, it is made again
+cp "$tmp/main.rt" "$copy/crates/list/src/main.rt"
+holds "the program is proved again" make -C "$copy/host" install PREFIX="$copy/installed"
+holds "a stale program is installed" cmp ../crates/list/out/list "$copy/installed/bin/oatlantern-list"
+
+# one of the crates that the archive calls is not proved: nothing is built, and nothing installed
+rm -r "$copy/installed" "$copy/target/host/oatlantern" "$copy/target/host/oatlantern-decode"
 for crate in player gateway; do
     cp "$copy/crates/$crate/src/lib.rt" "$tmp/lib.rt"
-    echo 'fn unproved(a: u8) -> u8 { a + 1 }' >> "$copy/crates/$crate/src/lib.rt"
+    echo "$spoil" >> "$copy/crates/$crate/src/lib.rt"
     fails "$crate is not proved, and is installed" make -C "$copy/host" install PREFIX="$copy/installed"
     holds "rt's words are not shown" grep -q "the library $crate did not build" "$tmp/said"
     fails "the command is built though $crate is not proved" test -e "$copy/target/host/oatlantern"
+    fails "a program is built though $crate is not proved" test -e "$copy/target/host/oatlantern-decode"
     fails "something is installed though $crate is not proved" test -e "$copy/installed"
     cp "$tmp/lib.rt" "$copy/crates/$crate/src/lib.rt"
     cp -p "$root/target/host/${crate}_c.o" "$root/target/host/${crate}_c.made" "$copy/target/host"
@@ -319,10 +376,11 @@ says "the README has three lines for C" 3 grep -c . "$tmp/commands"
 
 # readme: its lines, from the top of the copy with no program built; of what they print, what make does not
 readme() {
-    rm -f "$copy/target/host/oatlantern"
+    rm -f "$copy/target/host/oatlantern" "$copy"/target/host/oatlantern-*
     (cd "$copy" && sh -e "$tmp/commands") > "$tmp/log" 2>&1 || return 1
     grep -x '[0-9 ]* [cpd]' "$tmp/log" > "$tmp/got"
-    cmp "$tmp/wanted" "$tmp/got" && [ -x "$copy/target/installed/bin/oatlantern" ]
+    cmp "$tmp/wanted" "$tmp/got" && [ -x "$copy/target/installed/bin/oatlantern" ] &&
+        [ -x "$copy/target/installed/bin/oatlantern-list" ]
 }
 readme || fail "the README's lines"
 checks=$((checks + 1))
@@ -353,7 +411,8 @@ if [ "$(uname -m)" = x86_64 ]; then
         readme
     ) || fail "the README's lines on another machine"
     checks=$((checks + 1))
-    says "programs linked by the cross compiler" 1 grep -c '^gcc .* oatlantern\.c ' "$tmp/crossed"
+    says "programs linked by the cross compiler" 2 grep -c '^gcc .* [de][en]code\.c ' "$tmp/crossed"
+    says "the command linked by the cross compiler" 1 grep -c '^gcc .* oatlantern\.c ' "$tmp/crossed"
     holds "programs run by the emulator" test -s "$tmp/emulated"
 fi
 
