@@ -10,6 +10,7 @@ An edit is made in copies of the crate and of those above it, up to a program th
     seen: list samples/cut.rec         on a recording of samples/, held to the file of the program's name beside it
     seen: list recordings/00253.rec    on a recording that the independent program makes, held to what it says of it
     seen: salvager samples/dropped.rec held to two files beside it, for standard output and for standard error
+    seen: exchange cases/others        on cases that the independent program makes and that are not stored, held to what it says of them
     seen: leaves, does not end         the run has to be ended by the bound of `rt try`
     seen: leaves, is stopped           `rt try` stops the program, since what it does has no meaning (a sum that does not fit), or the program
                                        ends with another status than 0
@@ -74,11 +75,22 @@ class Runs:
         made = subprocess.run([outside, "recordings", folder / "recordings", str(RECORDINGS), str(SEED)], check=False) if outside else None
         if made is not None and made.returncode:
             sys.exit(f"{outside} recordings ended with status {made.returncode}")
+        if outside:
+            self.others(outside, folder / "cases")
         self.of = {program: list(self.inputs(program)) for program in programs}
+
+    def others(self, outside, folder):
+        """Lays down the cases of the exchange that are not stored, and what is to be printed of them."""
+        folder.mkdir()
+        cases = subprocess.run([outside, "exchange-cases", "others"], capture_output=True, check=True).stdout
+        (folder / "others").write_bytes(cases)
+        (folder / "others.exchange").write_bytes(subprocess.run([outside, "exchange"], input=cases, capture_output=True, check=True).stdout)
 
     def inputs(self, program):
         own = CRATES / program
         yield "", own / "stdin" if (own / "stdin").exists() else self.nothing, own / "stdout", None
+        if program == "exchange" and (others := self.folder / "cases/others").exists():
+            yield "cases/others", others, others.with_suffix(".exchange"), None
         kept = sorted((ROOT / "samples").glob("*.rec"))
         made = sorted((self.folder / "recordings").glob("*.rec"), key=lambda path: (path.stat().st_size > 2500, -path.stat().st_size))
         told, said = TOLD.get(program, (program, None))
