@@ -1,8 +1,8 @@
 #!/usr/bin/env python3
 """Makes the archive for C, and the programs in Rattle: proves each of the crates with rt, and takes what rt makes of it.
 
-    archive.py ARCHIVE CRATE..       beside the archive it leaves CRATE.o of each part, and what that was made from (CRATE.made)
-    archive.py --programs FOLDER CRATE..    rt leaves each program as crates/CRATE/out/CRATE; FOLDER has what it was made from
+    archive.py ARCHIVE CRATE..              beside the archive it leaves CRATE.o of each part, and what that was made from (CRATE.made)
+    archive.py --programs FOLDER CRATE..    rt leaves each program as crates/CRATE/out/CRATE; what that was made from is left in FOLDER
 
 rt is asked for a crate where the kit, the sources of the crate and of those below it, or what was made are other than when it was
 made last; where a crate is not proved, what rt says is shown, and nothing is made. ARCHIVE is written only where it changes. AR names what
@@ -80,7 +80,11 @@ def anew(crate, folder, kit, made, verb, take):
 def part(crate, folder, kit):
     """The object file of a part of the archive."""
     made, library = folder / f"{crate}.o", ROOT / "crates" / crate / "out" / f"lib{crate}.a"
-    return anew(crate, folder, kit, made, "lib", lambda: replace(made, subprocess.run([AR, "p", library, f"{crate}.o"], stdout=subprocess.PIPE, check=True).stdout))
+
+    def take():
+        replace(made, subprocess.run([AR, "p", library, made.name], stdout=subprocess.PIPE, check=True).stdout)
+
+    return anew(crate, folder, kit, made, "lib", take)
 
 
 def program(crate, folder, kit):
