@@ -41,9 +41,9 @@ from sources import CRATES, ROOT, Sources, below, changed, edits
 RECORDINGS, SEED = 560, 1
 SECONDS = 10  # how long a variant may run
 TOGETHER = 20  # how many variants are compiled together
-# what is stored beside a recording of what a program writes to standard output and to standard error; a program that is not named here has
-# a file of its own name, and nothing to say
-TOLD = {"salvager": ("salvaged", "changes")}
+# what is stored beside a recording of what a program writes to standard output and to standard error, and the independent program's word for
+# it; a program that is not named here has a file of its own name, and nothing to say
+TOLD = {"salvager": ("salvaged", "changes", "salvage")}
 # what a variant of a program does otherwise than the program: it takes the next argument for its first, and tells the changes behind the result
 TURNED = {"": [("rt.arg(1, ", "rt.arg(2, ")], "salvager": [("io::write_all(STDERR, &lines[..end])", "io::write_all(STDOUT, &lines[..end])")]}
 RIGHT, ELSE, ENDLESS, STOPPED = "prints the right thing", "prints something else", "does not end", "is stopped"
@@ -77,6 +77,7 @@ class Runs:
             sys.exit(f"{outside} recordings ended with status {made.returncode}")
         if outside:
             self.others(outside, folder / "cases")
+        self.said = {program: self.told(outside, program) for program in TOLD if outside}
         self.of = {program: list(self.inputs(program)) for program in programs}
 
     def others(self, outside, folder):
@@ -86,14 +87,21 @@ class Runs:
         (folder / "others").write_bytes(cases)
         (folder / "others.exchange").write_bytes(subprocess.run([outside, "exchange"], input=cases, capture_output=True, check=True).stdout)
 
+    def told(self, outside, program):
+        """What the independent program says to standard error of a program's own input, which is not stored."""
+        said = self.folder / f"{program}.said"
+        with (CRATES / program / "stdin").open("rb") as source:
+            said.write_bytes(subprocess.run([outside, TOLD[program][2]], stdin=source, capture_output=True, check=True).stderr)
+        return said
+
     def inputs(self, program):
         own = CRATES / program
-        yield "", own / "stdin" if (own / "stdin").exists() else self.nothing, own / "stdout", None
+        yield "", own / "stdin" if (own / "stdin").exists() else self.nothing, own / "stdout", self.said.get(program)
         if program == "exchange" and (others := self.folder / "cases/others").exists():
             yield "cases/others", others, others.with_suffix(".exchange"), None
         kept = sorted((ROOT / "samples").glob("*.rec"))
         made = sorted((self.folder / "recordings").glob("*.rec"), key=lambda path: (path.stat().st_size > 2500, -path.stat().st_size))
-        told, said = TOLD.get(program, (program, None))
+        told, said, _ = TOLD.get(program, (program, None, None))
         for path in kept + made:
             printed, changes = path.with_suffix(f".{told}"), said and path.with_suffix(f".{said}")
             if changes and not printed.exists():
