@@ -15,8 +15,8 @@ An edit is made in copies of the crate and of those above it, up to a program th
     seen: leaves, is stopped           `rt try` stops the program, since what it does has no meaning (a sum that does not fit), or the program
                                        ends with another status than 0
 
-The last two count only where the edit says so. An edit without a line that is true is a fault; --find looks for a run among all there are, and
-writes the line. Every run that was used is made of the right program too, as `rt ci` built it, which has to print what it should. With --since
+A line that says no more than the run is true where the program prints something else, is stopped or does not end: the right program, which
+runs beside it, does neither. An edit without a line that is true is a fault; --find looks for a run among all there are, and writes the line. Every run that was used is made of the right program too, as `rt ci` built it, which has to print what it should. With --since
 only the edits of crates are tried that changed after COMMIT. Edits of specs/ change what is promised, so they are no wrong programs and are
 not tried.
 
@@ -233,7 +233,8 @@ class Trial:
             return self.together(program, wanted[:half]) + self.together(program, wanted[half:])
         for (edit, _), (found, line) in zip(tried, shown):
             how = parted(edit.seen)[1]
-            said.append((f"{edit}: {edit.seen}" + ("" if found == how else f": but it {found}: {line}"), found != how))
+            fault = found == RIGHT if how == ELSE else found != how
+            said.append((f"{edit}: {edit.seen}" + (f": but it {found}: {line}" if fault else f": {found}"), fault))
         said += [(f"the right program: {' '.join(run[:2])}: {found}: {line}", True) for run, (found, line) in zip(used, shown[len(tried):]) if found != RIGHT]
         return said
 
