@@ -296,7 +296,8 @@ def stated(crate):
     return "\n".join(file.read_text(encoding="utf-8") for file in sorted((CRATES / crate / "specs").glob("*.antt")))
 
 
-STATEMENT = re.compile(r"^(?:unfoldable |abbrev )pub ([A-Z]\w+) : Type 0$", re.M)
+# a type of answers, `NAME = Result ..`, states nothing
+STATEMENT = re.compile(r"^(?:unfoldable |abbrev )pub ([A-Z]\w+) : Type 0$(?!\n\1 = (?:Result|Option|ControlFlow)\b)", re.M)
 # the rooms that state promises: `promises`, and each that has a Promised.antt
 ROOMS = ["promises", *(crate for crate in LIBRARIES if (CRATES / crate / "specs/Promised.antt").exists())]
 statements = set(STATEMENT.findall("\n".join(stated(crate) for crate in ROOMS)))

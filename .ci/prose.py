@@ -86,15 +86,17 @@ def cases_of(word):
     """What the definitions whose name has the word say of each case of an answer: {case: {what is said}}."""
     found = {}
     for spec in pages(["crates/*/specs/*.antt"]):
-        for m in re.finditer(rf"^\w*{word}\w* \(?(?:\w+\.)?([A-Z]\w*)[^=]*= (.+)$", read(spec), re.M):
+        for m in re.finditer(rf"^\w*{word}\w* \(?(?:Err \(?)?(?:\w+\.)?([A-Z]\w*)[^=]*= (.+)$", read(spec), re.M):
             if not spec.startswith("crates/promises/"):
                 found.setdefault(m[1], set()).add(m[2])
     return found
 
 
-# the refusals of salvaging have their numbers under the name number_of
-REFUSALS = {case: {int(n) for n in said if n.isdigit() and int(n)} for case, said in cases_of("(?:refusal|number_of)").items()}
+# the refusals of salvaging and of the excitation have their numbers under the name number_of, those of the tally book under numbered
+REFUSALS = {case: {int(n) for n in said if n.isdigit() and int(n)} for case, said in cases_of("(?:refusal|number_of|numbered)").items()}
 REFUSALS = {case: numbers for case, numbers in REFUSALS.items() if numbers}
+# a frame that is not read, since it is not eighteen bytes, has no case of its own
+hold(REFUSALS.pop("None", None) == REFUSALS.get("WrongLength"), "crates/frame/specs/Answers.antt", 1, "what is not read has not the number of a wrong length")
 TELLS = cases_of("(?:tells|told)")
 
 

@@ -45,7 +45,7 @@ TOGETHER = 20  # how many variants are compiled together
 # it; a program that is not named here has a file of its own name, and nothing to say
 TOLD = {"salvager": ("salvaged", "changes", "salvage")}
 # what a variant of a program does otherwise than the program: it takes the next argument for its first, and tells the changes behind the result
-TURNED = {"": [("rt.arg(1, ", "rt.arg(2, ")], "salvager": [("io::write_all(STDERR, &lines[..end])", "io::write_all(STDOUT, &lines[..end])")]}
+TURNED = {"": [("rt.arg(1, ", "rt.arg(2, ")], "salvager": [("tell(&mut rt.stderr(), salvaged)", "tell(&mut rt.stdout(), salvaged)")]}
 RIGHT, ELSE, ENDLESS, STOPPED = "prints the right thing", "prints something else", "does not end", "is stopped"
 MAIN = """// One wrong program of many: the first argument says which.
 use std::env::Env;

@@ -9,15 +9,10 @@ pub fn averages(previous: [u16; 10], present: [u16; 10]) -> [u32; 40]
     ensures { result ≡ averages_of previous present }
 {
     let mut eighths = [0u32; 40];
-    let mut i = 0;
-    while i < 10 {
-        let a = previous[i];
-        let b = present[i];
-        eighths[i] = average(1, a, b);
-        eighths[10 + i] = average(2, a, b);
-        eighths[20 + i] = average(3, a, b);
-        eighths[30 + i] = average(4, a, b);
-        i += 1;
+    for (k, eighth) in eighths.iter_mut().enumerate() {
+        let n = k / 10 + 1;
+        let i = k % 10;
+        *eighth = average(n as u32, previous[i], present[i]);
     }
     eighths
 }
@@ -27,5 +22,5 @@ fn average(n: u32, previous: u16, present: u16) -> u32
     requires { (1 ≤ n) × (n ≤ 4) }
     ensures { result ≡ average_of n previous present }
 {
-    (9 - 2 * n) * previous as u32 + (2 * n - 1) * present as u32
+    (9 - 2 * n) * u32::from(previous) + (2 * n - 1) * u32::from(present)
 }

@@ -2,34 +2,36 @@
 -- Assumes nothing.
 use mathlib.Core.Path.{◌≡◌, ◌∙◌, sym, refl, ap}
 use mathlib.Core.Bool.{Bool, true, false}
-use mathlib.Core.List.{List}
-use Prim.Native.Nat.{ℕ, ◌+◌, ◌*◌, ◌%◌, ◌<◌, ◌≤◌}
+use mathlib.Core.List.{List, [], ◌∷◌}
+use Prim.Native.Nat.{ℕ, ◌+◌, ◌%◌, ◌<◌, ◌≤◌}
 use native.Mathlib.Omega.{arith}
 use borrow.Author.Tests.{le-leb, lt-leb, lt-ltb, le-ltb, eq-eqb, ne_eqb, leb-true, eqb-true, ltb-true}
 use lib.Dec.{eqb, leb, ltb}
 use lib.ListN.{length, get_or}
+use Rattle.std.specs.Int.{w16, w32, from_le_bytes}
+use Rattle.std.specs.Prelude.{Result, Ok, Err}
 use Rattle.laws.specs.Bytes.{pair_at, word_at}
 use Rattle.laws.specs.Table.{both}
 use Rattle.laws.specs.Unless.{unless}
 use Rattle.laws.proofs.Chosen.{chosen}
 use Rattle.blocks.specs.Blocks.{size_at, kind_at, right_size, heading_at, of_kind, block_at}
+use Rattle.blocks.specs.declared.Cause.{Cause}
 use Rattle.blocks.specs.declared.Cause.TheVariants.{HeaderCut, PastEnd, WrongSize, UnknownKind, EndMissing}
 use Rattle.blocks.specs.declared.Heading.{Heading}
 use Rattle.blocks.specs.declared.Block.{Block}
-use Rattle.blocks.specs.declared.Block.TheVariants.{Head, Voice, End, Broken}
+use Rattle.blocks.specs.declared.Block.TheVariants.{Head, Voice, End}
 
 -- two bytes read one by one are the number in them
-pub pair_of : (s : List ℕ) (at a b : ℕ) → a ≡ get_or s at 0 → b ≡ get_or s (at + 1) 0 → a + 256 * b ≡ pair_at s at
+pub pair_of : (s : List ℕ) (at : ℕ) → from_le_bytes w16 (get_or s at 0 ∷ get_or s (at + 1) 0 ∷ []) ≡ pair_at s at
 unfolding pair_at
-pair_of s at a b p q = rw (p, q)
+pair_of s at = omega arith
 
--- and four, from two pairs
-pub word_of : (s : List ℕ) (at a b : ℕ) → a ≡ pair_at s at → b ≡ pair_at s (at + 2) → a + 65536 * b ≡ word_at s at
-unfolding word_at pair_at
-word_of s at a b p q =
-    let n : at + 2 + 1 ≡ at + 3 = omega arith in
-    let fourth = ap (λ (k : ℕ). get_or s k 0) n in
-    rw (p, q) (omega (arith, fourth))
+-- and four
+pub word_of : (s : List ℕ) (at : ℕ)
+    → from_le_bytes w32 (get_or s at 0 ∷ get_or s (at + 1) 0 ∷ get_or s (at + 2) 0 ∷ get_or s (at + 3) 0 ∷ [])
+    ≡ word_at s at
+unfolding word_at
+word_of s at = omega arith
 
 -- the size that is right for each kind
 module _ (kind size : ℕ) where
@@ -82,17 +84,17 @@ module _ (kind size : ℕ) where
 -- where no whole block stands: nothing is left, the header is cut, or the payload runs past the end
 module _ (s : List ℕ) (at : ℕ) where
   -- no byte at the place
-  pub nothing_left : length s ≤ at → Broken (EndMissing (length s)) ≡ block_at s at
+  pub nothing_left : length s ≤ at → Err (EndMissing (length s)) ≡ block_at s at
   unfolding block_at
   nothing_left h = rw (le-ltb at (length s) h)
 
   -- fewer bytes than a header
-  pub header_cut : at < length s → length s < at + 6 → Broken (HeaderCut at) ≡ block_at s at
+  pub header_cut : at < length s → length s < at + 6 → Err (HeaderCut at) ≡ block_at s at
   unfolding block_at
   header_cut h c = rw (lt-ltb at (length s) h, lt-leb (at + 6) (length s) c)
 
   -- a payload that runs past the end
-  pub past_end : at + 6 ≤ length s → length s < at + 6 + size_at s at → Broken (PastEnd at) ≡ block_at s at
+  pub past_end : at + 6 ≤ length s → length s < at + 6 + size_at s at → Err (PastEnd at) ≡ block_at s at
   unfolding block_at
   past_end h l =
       rw (
@@ -105,7 +107,7 @@ module _ (s : List ℕ) (at : ℕ) where
 -- where it is whole: a size that is wrong for its kind, or what stands there by its kind
 module _ (s : List ℕ) (at size kind : ℕ) (sized : size ≡ word_at s at) (kinded : kind ≡ pair_at s (at + 4))
     (fits : at + 6 + size ≤ length s) where
-  whole : block_at s at ≡ unless (right_size kind size) (Broken (WrongSize at size)) (of_kind s at kind)
+  whole : block_at s at ≡ unless (right_size kind size) (Err (WrongSize at size)) (of_kind s at kind)
   unfolding block_at
   whole =
       rw (
@@ -117,28 +119,28 @@ module _ (s : List ℕ) (at size kind : ℕ) (sized : size ≡ word_at s at) (ki
       )
 
   -- a size that is wrong for the kind
-  pub wrong_size : right_size kind size ≡ false → Broken (WrongSize at size) ≡ block_at s at
+  pub wrong_size : right_size kind size ≡ false → Err (WrongSize at size) ≡ block_at s at
   wrong_size r = rw (whole, r)
 
   module _ (right : right_size kind size ≡ true) where
     by_kind : block_at s at ≡ of_kind s at kind
-    by_kind = whole ∙ ap (λ (b : Bool). unless b (Broken (WrongSize at size)) (of_kind s at kind)) right
+    by_kind = whole ∙ ap (λ (b : Bool). unless b (Err (WrongSize at size)) (of_kind s at kind)) right
 
     -- a head
-    pub head : kind ≡ 1 → (h : Heading) → h ≡ heading_at s at → Head h ≡ block_at s at
+    pub head : kind ≡ 1 → (h : Heading) → h ≡ heading_at s at → Ok (Head h) ≡ block_at s at
     head k h e = rw (by_kind, eq-eqb kind 1 k, e)
 
     -- a voice block
-    pub voice : (kind ≡ 1 → ⊥) → kind ≡ 2 → Voice size ≡ block_at s at
+    pub voice : (kind ≡ 1 → ⊥) → kind ≡ 2 → Ok (Voice size) ≡ block_at s at
     voice n k = rw (by_kind, ne_eqb kind 1 n, eq-eqb kind 2 k, sized)
 
     -- an end
     pub end : (kind ≡ 1 → ⊥) → (kind ≡ 2 → ⊥) → kind ≡ 3 → (told : ℕ) → told ≡ word_at s (at + 6)
-        → End told ≡ block_at s at
+        → Ok (End told) ≡ block_at s at
     end n o k told e = rw (by_kind, ne_eqb kind 1 n, ne_eqb kind 2 o, eq-eqb kind 3 k, e)
 
     -- a kind that is none of the three
-    pub unknown_kind : (kind ≡ 1 → ⊥) → (kind ≡ 2 → ⊥) → (kind ≡ 3 → ⊥) → Broken (UnknownKind at) ≡ block_at s at
+    pub unknown_kind : (kind ≡ 1 → ⊥) → (kind ≡ 2 → ⊥) → (kind ≡ 3 → ⊥) → Err (UnknownKind at) ≡ block_at s at
     unknown_kind n o m = rw (by_kind, ne_eqb kind 1 n, ne_eqb kind 2 o, ne_eqb kind 3 m)
 
 -- what a block tells of the bytes that it stands in
@@ -148,11 +150,11 @@ pub record Bounds (s : List ℕ) (at size kind : ℕ) : Type 0 where
   pub kinded : kind_at s at ≡ kind
 
 -- a block that is not broken, taken apart: which kind it is, how long, and what it holds
-abbrev Held : List ℕ → ℕ → Block → Type 0
-Held s at (Head heading) = Bounds s at 8 1 × (heading ≡ heading_at s at)
-Held s at (Voice size) = Bounds s at size 2 × (0 < size) × (size % 18 ≡ 0)
-Held s at (End told) = Bounds s at 4 3 × (told ≡ word_at s (at + 6))
-Held s at (Broken cause) = Unit
+abbrev Held : List ℕ → ℕ → Result Block Cause → Type 0
+Held s at (Ok (Head heading)) = Bounds s at 8 1 × (heading ≡ heading_at s at)
+Held s at (Ok (Voice size)) = Bounds s at size 2 × (0 < size) × (size % 18 ≡ 0)
+Held s at (Ok (End told)) = Bounds s at 4 3 × (told ≡ word_at s (at + 6))
+Held s at (Err cause) = Unit
 
 -- so it is of whatever stands at a place
 held : (s : List ℕ) (at : ℕ) → Held s at (block_at s at)
@@ -188,13 +190,13 @@ held s at =
 
 module _ (s : List ℕ) (at : ℕ) where
   -- a head that is there
-  pub head_held : (heading : Heading) → block_at s at ≡ Head heading → Bounds s at 8 1 × (heading ≡ heading_at s at)
+  pub head_held : (heading : Heading) → block_at s at ≡ Ok (Head heading) → Bounds s at 8 1 × (heading ≡ heading_at s at)
   head_held heading e = rw e at (held s at)
 
   -- a voice block that is there
-  pub voice_held : (size : ℕ) → block_at s at ≡ Voice size → Bounds s at size 2 × (0 < size) × (size % 18 ≡ 0)
+  pub voice_held : (size : ℕ) → block_at s at ≡ Ok (Voice size) → Bounds s at size 2 × (0 < size) × (size % 18 ≡ 0)
   voice_held size e = rw e at (held s at)
 
   -- an end that is there
-  pub end_held : (n : ℕ) → block_at s at ≡ End n → Bounds s at 4 3 × (n ≡ word_at s (at + 6))
+  pub end_held : (n : ℕ) → block_at s at ≡ Ok (End n) → Bounds s at 4 3 × (n ≡ word_at s (at + 6))
   end_held n e = rw e at (held s at)

@@ -10,6 +10,8 @@ use native.Mathlib.Decide.{ℕ_discrete}
 use borrow.Author.Tests.{eq-eqb}
 use lib.ListN.{length, get_or, take, drop, length-append, length-drop, take-append-drop, drop_of_length-le}
 use lib.Seq.{get_or-append-add, drop-append-add, take-append_seam, drop-cons, drop-drop, take-add, length-take-le}
+use Rattle.std.specs.Prelude.{Ok}
+use Rattle.std.specs.declared.ops.ControlFlow.TheVariants.{Break}
 use Rattle.laws.specs.Bytes.{pair_at, word_at}
 use Rattle.blocks.specs.Blocks.{heading_at, block_at, part}
 use Rattle.blocks.specs.Walk.{after_head, past_head_of, past_voice_of, stopped, at_start, walk_from, walked_of}
@@ -19,10 +21,8 @@ use Rattle.blocks.specs.Made.{MadeFrom, walk_over}
 use Rattle.blocks.specs.Made.{Bytes, MadeIsWalked, WalkedIsMade}
 use Rattle.blocks.specs.declared.Block.TheVariants.{Head, Voice, End}
 use Rattle.blocks.specs.declared.Heading.{Heading}
-use Rattle.blocks.specs.declared.Ending.TheVariants.{Sound}
 use Rattle.blocks.specs.declared.Walked.{Walked}
 use Rattle.blocks.specs.declared.Walk.{Walk}
-use Rattle.blocks.specs.declared.Moved.TheVariants.{Done}
 use Rattle.blocks.proofs.Blocks as blocks
 use Rattle.blocks.proofs.Blocks.{Bounds}
 use Rattle.blocks.proofs.Voices.{voice_sized, voice_bounds, voice_itself, end_no_voice, voices_none}
@@ -95,7 +95,7 @@ module _ (pre p r : List ℕ) (kind at : ℕ) (e : at ≡ length pre) where
       ∙ ap (take (length p)) (drop-append-add pre (block kind p ++ r) 6) ∙ take-append_seam p r
 
 -- a block made of each kind is that block
-head_made : (h : Heading) (r : List ℕ) → block_at (head_block h ++ r) 0 ≡ Head h
+head_made : (h : Heading) (r : List ℕ) → block_at (head_block h ++ r) 0 ≡ Ok (Head h)
 unfolding word_at pair_at
 head_made h r =
     sym
@@ -104,7 +104,7 @@ head_made h r =
 
 module _ (pre p r : List ℕ) (at : ℕ) (e : at ≡ length pre) where
   -- a voice block of whole frames is one
-  voice_made : 0 < length p → length p % 18 ≡ 0 → block_at (bytes pre p r 2 at e) at ≡ Voice (length p)
+  voice_made : 0 < length p → length p % 18 ≡ 0 → block_at (bytes pre p r 2 at e) at ≡ Ok (Voice (length p))
   voice_made z m =
       let f = fits_made pre p r 2 at e in
       sym
@@ -122,7 +122,7 @@ end_number_made pre n at e =
     word_behind pre (block 3 (word_bytes n) ++ []) (at + 6) 6 m ∙ word_back n
 
 -- an end block is one that tells its number
-end_made : (pre : List ℕ) (n at : ℕ) (e : at ≡ length pre) → block_at (bytes pre (word_bytes n) [] 3 at e) at ≡ End n
+end_made : (pre : List ℕ) (n at : ℕ) (e : at ≡ length pre) → block_at (bytes pre (word_bytes n) [] 3 at e) at ≡ Ok (End n)
 end_made pre n at e =
     let f = fits_made pre (word_bytes n) [] 3 at e in
     sym
@@ -166,7 +166,7 @@ over_none s at z =
     }
 
 -- one block more before those that are walked over
-over_more : (s p : List ℕ) (ps : List (List ℕ)) (at : ℕ) → block_at s at ≡ Voice (length p) → 0 < length p
+over_more : (s p : List ℕ) (ps : List (List ℕ)) (at : ℕ) → block_at s at ≡ Ok (Voice (length p)) → 0 < length p
     → part s (at + 6) (length p) ≡ p → Over s ps (at + 6 + length p) → Over s (p ∷ ps) at
 over_more s p ps at b z h o =
     record {
@@ -177,14 +177,14 @@ over_more s p ps at b z h o =
   where
     walked' : (w : Walk) → w.at ≡ at → w.headed ≡ true → walk_from s w ≡ walk_from s (moved_over w at (p ∷ ps))
     walked' w e t =
-        let c : block_at s w.at ≡ Voice (length p) = ap (block_at s) e ∙ b in
+        let c : block_at s w.at ≡ Ok (Voice (length p)) = ap (block_at s) e ∙ b in
         let size = blocks_more p ps in
         let n : at + 6 + length p + length (voice_blocks ps)
         ≡ at + length (voice_blocks (p ∷ ps)) = omega (arith, size) in
         let f = frames_in_more p ps in
         let m : w.frames + length p / 18 + length (frames_in ps)
         ≡ w.frames + length (frames_in (p ∷ ps)) = omega (arith, f) in
-        walk_on s w (past_voice_of w (length p)) (sym (voice_passed w (length p) t ∙ step_met s w (Voice (length p)) c))
+        walk_on s w (past_voice_of w (length p)) (sym (voice_passed w (length p) t ∙ step_met s w (Ok (Voice (length p))) c))
         ∙ o.walked (past_voice_of w (length p)) (ap (λ (k : ℕ). k + 6 + length p) e) t
         ∙ ap (walk_from s) (λ i. record {
           at = n i;
@@ -215,7 +215,7 @@ over (p ∷ ps) pre tail a b s e z =
     is : s ≡ bytes pre p (voice_blocks ps ++ tail) 2 (length pre) refl
     is = e ∙ ap (λ (x : List ℕ). pre ++ x) (append_assoc (block 2 p) (voice_blocks ps) tail)
 
-    there : block_at s (length pre) ≡ Voice (length p)
+    there : block_at s (length pre) ≡ Ok (Voice (length p))
     there =
         ap (λ (x : List ℕ). block_at x (length pre)) is
         ∙ voice_made pre p (voice_blocks ps ++ tail) (length pre) refl (a 0 (omega arith)) (b 0 (omega arith))
@@ -265,7 +265,7 @@ module _ (s : List ℕ) (heading : Heading) (ps : List (List ℕ)) (m : MadeFrom
   is_ended = is_made ∙ sym (append_assoc (head_block heading) (voice_blocks ps) (end_block (length (frames_in ps))))
 
   -- and is read there
-  end_there : block_at s stop ≡ End (length (frames_in ps))
+  end_there : block_at s stop ≡ Ok (End (length (frames_in ps)))
   end_there =
       ap (λ (x : List ℕ). block_at x stop) is_ended ∙ end_made (head_block heading ++ voice_blocks ps)
       (length (frames_in ps)) stop stop_is
@@ -280,7 +280,7 @@ module _ (s : List ℕ) (heading : Heading) (ps : List (List ℕ)) (m : MadeFrom
       omega (arith, a, b, c)
 
   -- the head is read at the first byte
-  head_there : block_at s 0 ≡ Head heading
+  head_there : block_at s 0 ≡ Ok (Head heading)
   head_there =
       ap (λ (x : List ℕ). block_at x 0) is_made ∙ head_made heading (voice_blocks ps ++ end_block (length (frames_in ps)))
 
@@ -292,12 +292,12 @@ module _ (s : List ℕ) (heading : Heading) (ps : List (List ℕ)) (m : MadeFrom
       (end_no_voice s stop (length (frames_in ps)) end_there)
 
   -- so the whole is walked through
-  made_walked : walked_of s ≡ stopped (walk_over heading ps) Sound
+  made_walked : walked_of s ≡ stopped (walk_over heading ps) (Ok tt)
   unfolding stop
   made_walked =
       walked_from s m.short
       ∙ walk_on s at_start (past_head_of at_start heading) (sym
-      (first_head at_start heading refl ∙ step_met s at_start (Head heading) head_there))
+      (first_head at_start heading refl ∙ step_met s at_start (Ok (Head heading)) head_there))
       ∙ walked_over.walked (past_head_of at_start heading) refl refl
       ∙ ap (λ (k : ℕ). walk_from s (record {
         at = stop;
@@ -308,12 +308,12 @@ module _ (s : List ℕ) (heading : Heading) (ps : List (List ℕ)) (m : MadeFrom
             = k;
       }))
       (zero-add (length (frames_in ps)))
-      ∙ walk_done s (walk_over heading ps) Sound
+      ∙ walk_done s (walk_over heading ps) (Ok tt)
       (sym
-      (ap Done
+      (ap Break
       (end_right (length s) (walk_over heading ps).at (length (frames_in ps)) (length (frames_in ps))
       (some_frames ps m.some m.positive m.whole) refl long_made)
-      ∙ step_met s (walk_over heading ps) (End (length (frames_in ps))) end_there))
+      ∙ step_met s (walk_over heading ps) (Ok (End (length (frames_in ps)))) end_there))
 
   -- and its payloads are those that it was made from
   made_payloads : payloads_of s ≡ ps
@@ -442,7 +442,7 @@ module _ (s : List ℕ) (small : Bytes s) where
       (ap (take 4) (drop-drop 4 at s) ∙ word_part (at + 4) (omega arith))
 
   -- the whole, of its three pieces
-  sound_remade : (walked_of s).ending ≡ Sound → s ≡ made (walked_of s).walk.heading (payloads_of s)
+  sound_remade : (walked_of s).ending ≡ Ok tt → s ≡ made (walked_of s).walk.heading (payloads_of s)
   unfolding made
   sound_remade e =
       block_remade 0 8 1 top.0

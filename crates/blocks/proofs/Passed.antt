@@ -7,14 +7,14 @@ use Prim.Native.Nat.{ℕ, zero, suc, ◌+◌, ◌/◌}
 use native.Mathlib.Omega.{arith}
 use lib.ListN.{length, drop, length-append, length-drop}
 use lib.Seq.{length-take-le}
+use Rattle.std.specs.Prelude.{Ok}
+use Rattle.std.specs.declared.ops.ControlFlow.TheVariants.{Continue, Break}
 use Rattle.blocks.specs.Blocks.{block_at, part}
 use Rattle.blocks.specs.Walk.{after_head, past_head_of, past_voice_of, step_of, at_start, walked_of}
 use Rattle.blocks.specs.Frames.{voices_from, payloads_of, cut, eighteens, frames_in}
 use Rattle.blocks.specs.Made.{block, voice_blocks}
 use Rattle.blocks.specs.declared.Block.TheVariants.{Head, Voice}
-use Rattle.blocks.specs.declared.Ending.TheVariants.{Sound}
 use Rattle.blocks.specs.declared.Walk.{Walk}
-use Rattle.blocks.specs.declared.Moved.TheVariants.{On, Done}
 use Rattle.blocks.proofs.Blocks.{voice_held}
 use Rattle.blocks.proofs.Voices.{voice_itself, end_no_voice, voices_none, voices_more, payloads_sound}
 use Rattle.blocks.proofs.Walks.{step_on, Ended, step_sound, walked_keeps, walked_stops, sound_short}
@@ -72,7 +72,7 @@ blocks_last (q ∷ ps) p =
 -- past the head: it is the first block, the voice blocks begin behind it, and of theirs these payloads are passed
 pub record Behind (s : List ℕ) (w : Walk) (ps : List (List ℕ)) : Type 0 where
   pub headed : w.headed ≡ true
-  pub head : block_at s 0 ≡ Head w.heading
+  pub head : block_at s 0 ≡ Ok (Head w.heading)
   pub voices : w.voices ≡ after_head 0
   pub passed : voices_from s (after_head 0) ≡ ps ++ voices_from s w.at
   pub at : w.at ≡ after_head 0 + length (voice_blocks ps)
@@ -84,7 +84,7 @@ pub data Way (s : List ℕ) : Walk → Type 0 where
   behind_head : (w : Walk) (ps : List (List ℕ)) → Behind s w ps → Way s w
 
 -- it stays so at each step
-way_on : (s : List ℕ) (w next : Walk) → Way s w → step_of s w ≡ On next → Way s next
+way_on : (s : List ℕ) (w next : Walk) → Way s w → step_of s w ≡ Continue next → Way s next
 way_on s _ next before_head o =
     step_on s at_start next (Way s)
     (λ h e t.
@@ -103,7 +103,7 @@ way_on s w next (behind_head _ ps b) o =
     (λ h e t. absurd (let u : true ≡ false = sym b.headed ∙ t in let z : ◌≡◌ {A = ℕ} 0 1 = cc in omega arith))
     (λ size e t. behind_head (past_voice_of w size) (ps ++ (part s (w.at + 6) size ∷ [])) (further size e)) o
   where
-    further : (size : ℕ) → block_at s w.at ≡ Voice size
+    further : (size : ℕ) → block_at s w.at ≡ Ok (Voice size)
         → Behind s (past_voice_of w size) (ps ++ (part s (w.at + 6) size ∷ []))
     further size e =
         let v = voice_held s w.at size e in
@@ -135,11 +135,11 @@ pub record Whole (s : List ℕ) : Type 0 where
   pub voices : payloads_of s ≡ voices_from s (after_head 0)
 
 -- so it is of every sound recording
-pub sound_whole : (s : List ℕ) → (walked_of s).ending ≡ Sound → Whole s
+pub sound_whole : (s : List ℕ) → (walked_of s).ending ≡ Ok tt → Whole s
 sound_whole s e = go (walked_of s).walk refl (way s)
   where
     end : Ended s (walked_of s).walk
-    end = step_sound s (walked_of s).walk (walked_stops s (sound_short s e) ∙ ap Done e)
+    end = step_sound s (walked_of s).walk (walked_stops s (sound_short s e) ∙ ap Break e)
 
     go : (w : Walk) → (walked_of s).walk ≡ w → Way s w → Whole s
     go w i before_head = absurd (let n = end.some in let z = ap (λ (x : Walk). x.frames) i in omega (arith, n, z))

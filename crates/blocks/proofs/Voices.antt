@@ -7,6 +7,7 @@ use native.Mathlib.Omega.{arith}
 use native.Mathlib.Decide.{ℕ_discrete}
 use borrow.Author.Tests.{eq-eqb, ne_eqb}
 use lib.ListN.{length, get_or, get_or-map}
+use Rattle.std.specs.Prelude.{Result, Ok, Err}
 use Rattle.laws.proofs.Turns.{turns_once}
 use Rattle.blocks.specs.Blocks.{block_at, part}
 use Rattle.blocks.specs.Walk.{walked_of}
@@ -15,47 +16,46 @@ use Rattle.blocks.specs.Frames.{nowhere, span_of}
 use Rattle.blocks.specs.Frames.{bytes_at, voices_from, payloads_of, voice_block_of}
 use Rattle.blocks.specs.declared.Cause.{Cause}
 use Rattle.blocks.specs.declared.Block.{Block}
-use Rattle.blocks.specs.declared.Block.TheVariants.{Head, Voice, End, Broken}
+use Rattle.blocks.specs.declared.Block.TheVariants.{Head, Voice, End}
 use Rattle.blocks.specs.declared.Heading.{Heading}
 use Rattle.blocks.specs.declared.Span.{Span}
 use Rattle.blocks.specs.declared.Walked.{Walked}
-use Rattle.blocks.specs.declared.Ending.{Ending}
-use Rattle.blocks.specs.declared.Ending.TheVariants.{Sound, Refused}
+use Rattle.blocks.specs.Walk.{Ending}
 use Rattle.blocks.proofs.Blocks.{Bounds, voice_held}
 
 -- the returns of `voice_size`
 module _ (s : List ℕ) (at : ℕ) where
   -- it goes by the block
-  size_of : (b : Block) → block_at s at ≡ b → voice_in b ≡ voice_size s at
+  size_of : (b : Result Block Cause) → block_at s at ≡ b → voice_in b ≡ voice_size s at
   unfolding voice_size
   size_of b e = ap voice_in (sym e)
 
   -- a head has none
-  pub head_no_voice : (h : Heading) → block_at s at ≡ Head h → 0 ≡ voice_size s at
-  head_no_voice h e = size_of (Head h) e
+  pub head_no_voice : (h : Heading) → block_at s at ≡ Ok (Head h) → 0 ≡ voice_size s at
+  head_no_voice h e = size_of (Ok (Head h)) e
 
   -- a voice block has its own
-  pub voice_itself : (size : ℕ) → block_at s at ≡ Voice size → size ≡ voice_size s at
-  voice_itself size e = size_of (Voice size) e
+  pub voice_itself : (size : ℕ) → block_at s at ≡ Ok (Voice size) → size ≡ voice_size s at
+  voice_itself size e = size_of (Ok (Voice size)) e
 
   -- an end has none
-  pub end_no_voice : (n : ℕ) → block_at s at ≡ End n → 0 ≡ voice_size s at
-  end_no_voice n e = size_of (End n) e
+  pub end_no_voice : (n : ℕ) → block_at s at ≡ Ok (End n) → 0 ≡ voice_size s at
+  end_no_voice n e = size_of (Ok (End n)) e
 
   -- nor has what is broken
-  pub broken_no_voice : (cause : Cause) → block_at s at ≡ Broken cause → 0 ≡ voice_size s at
-  broken_no_voice cause e = size_of (Broken cause) e
+  pub broken_no_voice : (cause : Cause) → block_at s at ≡ Err cause → 0 ≡ voice_size s at
+  broken_no_voice cause e = size_of (Err cause) e
 
 -- where the size is not 0, a voice block of that size stands
-voice_there : (s : List ℕ) (at : ℕ) → (voice_size s at ≡ 0 → ⊥) → block_at s at ≡ Voice (voice_size s at)
+voice_there : (s : List ℕ) (at : ℕ) → (voice_size s at ≡ 0 → ⊥) → block_at s at ≡ Ok (Voice (voice_size s at))
 unfolding voice_size
 voice_there s at n = go (block_at s at) n
   where
-    go : (b : Block) → (voice_in b ≡ 0 → ⊥) → b ≡ Voice (voice_in b)
-    go (Head h) n = absurd (n refl)
-    go (Voice size) n = refl
-    go (End told) n = absurd (n refl)
-    go (Broken cause) n = absurd (n refl)
+    go : (b : Result Block Cause) → (voice_in b ≡ 0 → ⊥) → b ≡ Ok (Voice (voice_in b))
+    go (Ok (Head h)) n = absurd (n refl)
+    go (Ok (Voice size)) n = refl
+    go (Ok (End told)) n = absurd (n refl)
+    go (Err cause) n = absurd (n refl)
 
 -- its bounds, of a size that was found
 pub record Sized (s : List ℕ) (at size : ℕ) : Type 0 where
@@ -153,28 +153,28 @@ module _ {s : List ℕ} {voices k at before : ℕ} (size : ℕ) (e : size ≡ vo
       }
 
 -- those of a recording: none of a refused one, of a sound one those after its head
-pub spans_refused : (s : List ℕ) (cause : Cause) → (walked_of s).ending ≡ Refused cause → spans_of s ≡ []
+pub spans_refused : (s : List ℕ) (cause : Cause) → (walked_of s).ending ≡ Err cause → spans_of s ≡ []
 unfolding spans_of
 spans_refused s cause e = ap (λ (x : Ending). if_sound x (spans_from s (walked_of s).walk.voices) []) e
 
 -- of a sound one
-pub spans_sound : (s : List ℕ) → (walked_of s).ending ≡ Sound → spans_of s ≡ spans_from s (walked_of s).walk.voices
+pub spans_sound : (s : List ℕ) → (walked_of s).ending ≡ Ok tt → spans_of s ≡ spans_from s (walked_of s).walk.voices
 unfolding spans_of
 spans_sound s e = ap (λ (x : Ending). if_sound x (spans_from s (walked_of s).walk.voices) []) e
 
 -- so with the payloads: of a refused one
-pub payloads_refused : (s : List ℕ) (cause : Cause) → (walked_of s).ending ≡ Refused cause → payloads_of s ≡ []
+pub payloads_refused : (s : List ℕ) (cause : Cause) → (walked_of s).ending ≡ Err cause → payloads_of s ≡ []
 unfolding payloads_of
 payloads_refused s cause e = ap (map (bytes_at s)) (spans_refused s cause e)
 
 -- of a sound one
-pub payloads_sound : (s : List ℕ) → (walked_of s).ending ≡ Sound
+pub payloads_sound : (s : List ℕ) → (walked_of s).ending ≡ Ok tt
     → payloads_of s ≡ voices_from s (walked_of s).walk.voices
 unfolding payloads_of voices_from
 payloads_sound s e = ap (map (bytes_at s)) (spans_sound s e)
 
 -- the returns of `voice_span`
-pub span_refused : (s : List ℕ) (k : ℕ) (w : Walked) (cause : Cause) → w ≡ walked_of s → w.ending ≡ Refused cause
+pub span_refused : (s : List ℕ) (k : ℕ) (w : Walked) (cause : Cause) → w ≡ walked_of s → w.ending ≡ Err cause
     → nowhere ≡ span_of s k
 unfolding span_of
 span_refused s k w cause i e =
@@ -182,7 +182,7 @@ span_refused s k w cause i e =
     (ap (λ (x : Walked). x.ending) (sym i) ∙ e)))
 
 -- of a sound recording, the k-th from behind its head
-pub span_sound : (s : List ℕ) (k : ℕ) (w : Walked) → w ≡ walked_of s → w.ending ≡ Sound
+pub span_sound : (s : List ℕ) (k : ℕ) (w : Walked) → w ≡ walked_of s → w.ending ≡ Ok tt
     → get_or (spans_from s w.walk.voices) k nowhere ≡ span_of s k
 unfolding span_of
 span_sound s k w i e =
@@ -227,10 +227,10 @@ unfolding span_of
 span_placed s k = go (walked_of s).ending refl
   where
     go : (x : Ending) → (walked_of s).ending ≡ x → Placed s (get_or (spans_of s) k nowhere)
-    go Sound e =
+    go (Ok _) e =
         subst (λ (x : List Span). Placed s (get_or x k nowhere)) (sym (spans_sound s e))
         (spans_placed s k (walked_of s).walk.voices)
-    go (Refused cause) e =
+    go (Err cause) e =
         subst (λ (x : List Span). Placed s (get_or x k nowhere)) (sym (spans_refused s cause e)) (nowhere_placed s)
 
 -- what `voice_block` needs of the place that it was told, and what it returns

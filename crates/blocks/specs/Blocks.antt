@@ -1,12 +1,13 @@
 -- Blocks (document 01, "Recordings"): a payload length (4 bytes, little-endian), a kind (2 bytes), the payload.
-use Rattle.std.specs.Prelude.{Bool, true, cond, List, ℕ, ◌+◌, ◌%◌, eqb, leb, ltb, length, take, drop}
+use Rattle.std.specs.Prelude.{Result, Bool, true, cond, List, ℕ, ◌+◌, ◌%◌, eqb, leb, ltb, length, take, drop, Ok, Err}
 use Rattle.laws.specs.Bytes.{pair_at, word_at}
 use Rattle.laws.specs.Table.{both}
 use Rattle.laws.specs.Unless.{unless}
+use Rattle.blocks.specs.declared.Cause.{Cause}
 use Rattle.blocks.specs.declared.Cause.TheVariants.{HeaderCut, PastEnd, WrongSize, UnknownKind, EndMissing}
 use Rattle.blocks.specs.declared.Heading.{Heading}
 use Rattle.blocks.specs.declared.Block.{Block}
-use Rattle.blocks.specs.declared.Block.TheVariants.{Head, Voice, End, Broken}
+use Rattle.blocks.specs.declared.Block.TheVariants.{Head, Voice, End}
 
 -- n bytes from a place on
 abbrev pub part : List ℕ → ℕ → ℕ → List ℕ
@@ -31,18 +32,18 @@ right_size kind size =
 abbrev pub heading_at : List ℕ → ℕ → Heading
 heading_at s at = record { unit = word_at s (at + 6); number = word_at s (at + 10) }
 
-abbrev pub of_kind : List ℕ → ℕ → ℕ → Block
+abbrev pub of_kind : List ℕ → ℕ → ℕ → Result Block Cause
 of_kind s at kind =
-    cond (eqb kind 1) (Head (heading_at s at))
-    (cond (eqb kind 2) (Voice (size_at s at))
-    (cond (eqb kind 3) (End (word_at s (at + 6))) (Broken (UnknownKind at))))
+    cond (eqb kind 1) (Ok (Head (heading_at s at)))
+    (cond (eqb kind 2) (Ok (Voice (size_at s at)))
+    (cond (eqb kind 3) (Ok (End (word_at s (at + 6)))) (Err (UnknownKind at))))
 
 -- what stands at a place: a block, or why there is none; the refusals that one block can have by itself come in this
 -- order: 9, 10, 11, then 8 (document 02, K1)
-unfoldable pub block_at : List ℕ → ℕ → Block
+unfoldable pub block_at : List ℕ → ℕ → Result Block Cause
 block_at s at =
-    unless (ltb at (length s)) (Broken (EndMissing (length s)))
-    (unless (leb (at + 6) (length s)) (Broken (HeaderCut at))
-    (unless (leb (at + 6 + size_at s at) (length s)) (Broken (PastEnd at))
-    (unless (right_size (kind_at s at) (size_at s at)) (Broken (WrongSize at (size_at s at)))
+    unless (ltb at (length s)) (Err (EndMissing (length s)))
+    (unless (leb (at + 6) (length s)) (Err (HeaderCut at))
+    (unless (leb (at + 6 + size_at s at) (length s)) (Err (PastEnd at))
+    (unless (right_size (kind_at s at) (size_at s at)) (Err (WrongSize at (size_at s at)))
     (of_kind s at (kind_at s at)))))

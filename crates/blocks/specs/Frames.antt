@@ -1,23 +1,21 @@
 -- The voice blocks of a recording and the frames in them.
-use Rattle.std.specs.Prelude.{List, [], ◌∷◌, ◌++◌, map, ℕ, zero, suc, ◌+◌, ◌-◌, ◌/◌, cond, eqb, leb, length, get_or, take, drop}
+use Rattle.std.specs.Prelude.{Option, Some, None, Result, List, [], ◌∷◌, ◌++◌, map, ℕ, zero, suc, ◌+◌, ◌-◌, ◌/◌, cond, eqb, leb, length, get_or, take, drop, Ok, Err}
 use Rattle.laws.specs.Turns.{turns}
 use Rattle.laws.specs.Unless.{unless}
 use Rattle.blocks.specs.Blocks.{block_at, part}
-use Rattle.blocks.specs.Walk.{walked_of}
+use Rattle.blocks.specs.Walk.{walked_of, Ending}
+use Rattle.blocks.specs.declared.Cause.{Cause}
 use Rattle.blocks.specs.declared.Block.{Block}
-use Rattle.blocks.specs.declared.Block.TheVariants.{Head, Voice, End, Broken}
+use Rattle.blocks.specs.declared.Block.TheVariants.{Head, Voice, End}
 use Rattle.blocks.specs.declared.Found.{Found}
-use Rattle.blocks.specs.declared.Found.TheVariants.{At, Nothing}
 use Rattle.blocks.specs.declared.Span.{Span}
-use Rattle.blocks.specs.declared.Ending.{Ending}
-use Rattle.blocks.specs.declared.Ending.TheVariants.{Sound, Refused}
 
 -- the payload's size of the voice block at a place; 0 where there is none
-abbrev pub voice_in : Block → ℕ
-voice_in (Head heading) = 0
-voice_in (Voice size) = size
-voice_in (End told) = 0
-voice_in (Broken cause) = 0
+abbrev pub voice_in : Result Block Cause → ℕ
+voice_in (Ok (Head heading)) = 0
+voice_in (Ok (Voice size)) = size
+voice_in (Ok (End told)) = 0
+voice_in (Err cause) = 0
 
 unfoldable pub voice_size : List ℕ → ℕ → ℕ
 voice_size s at = voice_in (block_at s at)
@@ -34,8 +32,8 @@ spans_from s = turns [] (λ further at. spans_with further at (voice_size s at))
 
 -- those of a recording: a refused one has none
 abbrev pub if_sound : {A : Type 0} → Ending → A → A → A
-if_sound Sound a b = a
-if_sound (Refused cause) a b = b
+if_sound (Ok _) a b = a
+if_sound (Err cause) a b = b
 
 unfoldable pub spans_of : List ℕ → List Span
 spans_of s = if_sound (walked_of s).ending (spans_from s (walked_of s).walk.voices) []
@@ -84,16 +82,16 @@ frames_of s = frames_in (payloads_of s)
 
 -- the next frame from a place on, with so many bytes left of a voice block; with none left, the first of the voice
 -- block there
-unfoldable pub found_at : List ℕ → ℕ → ℕ → Found
+unfoldable pub found_at : List ℕ → ℕ → ℕ → Option Found
 found_at s at left =
-    cond (eqb left 0) (cond (eqb (voice_size s at) 0) Nothing (At (at + 6) (voice_size s at - 18)))
-    (unless (leb 18 left) Nothing
-    (unless (leb (at + 18) (length s)) Nothing (At at (left - 18))))
+    cond (eqb left 0) (cond (eqb (voice_size s at) 0) None (Some (record { first = at + 6; rest = voice_size s at - 18 })))
+    (unless (leb 18 left) None
+    (unless (leb (at + 18) (length s)) None (Some (record { first = at; rest = left - 18 }))))
 
 -- the frames found one after the other
-abbrev pub frames_with : List ℕ → (ℕ × ℕ → List (List ℕ)) → Found → List (List ℕ)
-frames_with s further (At first rest) = part s first 18 ∷ further (first + 18, rest)
-frames_with s further Nothing = []
+abbrev pub frames_with : List ℕ → (ℕ × ℕ → List (List ℕ)) → Option Found → List (List ℕ)
+frames_with s further (Some found) = part s found.first 18 ∷ further (found.first + 18, found.rest)
+frames_with s further None = []
 
 unfoldable pub frames_from : List ℕ → ℕ → ℕ → List (List ℕ)
 frames_from s at left =

@@ -1,11 +1,10 @@
 -- The format described once, by how its bytes are made (document 01, "Recordings"); what is walked through to a sound
 -- end is what is made so.
-use Rattle.std.specs.Prelude.{◌≡◌, true, List, [], ◌∷◌, ◌++◌, ℕ, ◌+◌, ◌/◌, ◌%◌, ◌<◌, ◌≤◌, length, get_or}
+use Rattle.std.specs.Prelude.{◌≡◌, true, List, [], ◌∷◌, ◌++◌, ℕ, ◌+◌, ◌/◌, ◌%◌, ◌<◌, ◌≤◌, length, get_or, Ok}
 use Rattle.blocks.specs.Walk.{longest, after_head, stopped, walked_of}
 use Rattle.blocks.specs.Frames.{payloads_of, frames_in}
 use Rattle.blocks.specs.declared.Heading.{Heading}
 use Rattle.blocks.specs.declared.Walk.{Walk}
-use Rattle.blocks.specs.declared.Ending.TheVariants.{Sound}
 
 -- a number in two and in four bytes, the lowest first
 abbrev pub pair_bytes : ℕ → List ℕ
@@ -56,7 +55,7 @@ walk_over heading ps =
 abbrev pub MadeIsWalked : Type 0
 MadeIsWalked =
     (s : List ℕ) (heading : Heading) (ps : List (List ℕ)) → MadeFrom s heading ps
-    → (walked_of s ≡ stopped (walk_over heading ps) Sound) × (payloads_of s ≡ ps)
+    → (walked_of s ≡ stopped (walk_over heading ps) (Ok tt)) × (payloads_of s ≡ ps)
 
 -- and every byte string that is walked through to a sound end is made so, from what was passed
 abbrev pub Bytes : List ℕ → Type 0
@@ -64,4 +63,4 @@ Bytes s = (i : ℕ) → get_or s i 0 < 256
 
 abbrev pub WalkedIsMade : Type 0
 WalkedIsMade =
-    (s : List ℕ) → Bytes s → (walked_of s).ending ≡ Sound → MadeFrom s (walked_of s).walk.heading (payloads_of s)
+    (s : List ℕ) → Bytes s → (walked_of s).ending ≡ Ok tt → MadeFrom s (walked_of s).walk.heading (payloads_of s)

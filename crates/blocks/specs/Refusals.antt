@@ -1,13 +1,12 @@
 -- The refusals of a recording (document 01, "Refusal numbers"; document 02, K1): the number of each cause, and what it
 -- tells.
-use Rattle.std.specs.Prelude.{List, [], ◌∷◌, ℕ}
+use Rattle.std.specs.Prelude.{List, [], ◌∷◌, ℕ, Ok, Err}
 use Rattle.blocks.specs.declared.Cause.{Cause}
 use Rattle.blocks.specs.declared.Cause.TheVariants.{TooLong, HeaderCut, PastEnd, WrongSize, UnknownKind}
 use Rattle.blocks.specs.declared.Cause.TheVariants.{OutOfTurn, EndMissing, WrongCount, Extra}
 use Rattle.blocks.specs.declared.Told.{Told}
 use Rattle.blocks.specs.declared.Told.TheVariants.{Nothing, Place, PlaceAndSize}
-use Rattle.blocks.specs.declared.Ending.{Ending}
-use Rattle.blocks.specs.declared.Ending.TheVariants.{Sound, Refused}
+use Rattle.blocks.specs.Walk.{Ending}
 use Rattle.blocks.specs.declared.Walked.{Walked}
 
 -- 9: header cut; 10: length running past the end; 11: payload size wrong for its kind (K1)
@@ -45,12 +44,12 @@ tells_of cause = numbers_told (told_of cause)
 
 -- of an answer; 0 is no refusal
 abbrev pub ending_refusal : Ending → ℕ
-ending_refusal Sound = 0
-ending_refusal (Refused cause) = refusal_of cause
+ending_refusal (Ok _) = 0
+ending_refusal (Err cause) = refusal_of cause
 
 abbrev pub ending_tells : Ending → List ℕ
-ending_tells Sound = []
-ending_tells (Refused cause) = tells_of cause
+ending_tells (Ok _) = []
+ending_tells (Err cause) = tells_of cause
 
 abbrev pub walked_refusal : Walked → ℕ
 walked_refusal walked = ending_refusal walked.ending

@@ -6,6 +6,7 @@ use Prim.Native.Nat.{ℕ, ◌<◌, ◌≤◌}
 use native.Mathlib.Omega.{arith}
 use lib.Dec.{eqb}
 use lib.ListN.{length, length-append}
+use Rattle.std.specs.Prelude.{Result, Ok, Err}
 use Rattle.laws.proofs.Chosen.{chosen}
 use Rattle.text.specs.Ascii.{ascii}
 use Rattle.text.specs.Decimal.{decimal, digits_in}
@@ -17,7 +18,7 @@ use Rattle.kept.specs.declared.Unsalvaged.TheVariants.{TooLong, WrongBuffer, NoH
 use Rattle.salvage.specs.Salvaging.{salvage_of, refusal_of}
 use Rattle.salvage.specs.declared.Changes.{Changes}
 use Rattle.salvage.specs.declared.Salvaged.{Salvaged}
-use Rattle.salvage.specs.declared.Salvaged.TheVariants.{Sound, Mended, Refused}
+use Rattle.salvage.specs.declared.Salvaged.TheVariants.{Sound, Mended}
 use Rattle.salvage.proofs.Results.{Small, changes_small}
 use Rattle.changes.specs.Promised.{last_lines, ChangesTold, ChangesFit}
 use Rattle.changes.specs.Telling.{dropped_line, kept_line, end_line, refused_line, dropped_text, changes_text}
@@ -54,17 +55,17 @@ three_lines c l =
     ∙ simp append_assoc
 
 -- a refusal's number in its line
-one_line : (x : Salvaged) → refusal_of x ≡ 1 → telling_of x ≡ ascii "refused 1\n"
+one_line : (x : Result Salvaged Unsalvaged) → refusal_of x ≡ 1 → telling_of x ≡ ascii "refused 1\n"
 unfolding refused_line decimal digits_in
-one_line Sound e = absurd (omega arith)
-one_line (Mended c) e = absurd (omega arith)
-one_line (Refused why) e = ap refused_line e
+one_line (Ok Sound) e = absurd (omega arith)
+one_line (Ok (Mended c)) e = absurd (omega arith)
+one_line (Err why) e = ap refused_line e
 
-twelve_line : (x : Salvaged) → refusal_of x ≡ 12 → telling_of x ≡ ascii "refused 12\n"
+twelve_line : (x : Result Salvaged Unsalvaged) → refusal_of x ≡ 12 → telling_of x ≡ ascii "refused 12\n"
 unfolding refused_line decimal digits_in
-twelve_line Sound e = absurd (omega arith)
-twelve_line (Mended c) e = absurd (omega arith)
-twelve_line (Refused why) e = ap refused_line e
+twelve_line (Ok Sound) e = absurd (omega arith)
+twelve_line (Ok (Mended c)) e = absurd (omega arith)
+twelve_line (Err why) e = ap refused_line e
 
 pub changes_told : ChangesTold
 unfolding ChangesTold
@@ -110,7 +111,7 @@ pub changes_fit : ChangesFit
 unfolding ChangesFit
 changes_fit s room = go (salvage_of s room) refl
   where
-    go : (x : Salvaged) → salvage_of s room ≡ x → length (telling_of x) ≤ 128
-    go Sound e = omega arith
-    go (Mended c) e = changes_short c (changes_small s room c e)
-    go (Refused why) e = refused_short why
+    go : (x : Result Salvaged Unsalvaged) → salvage_of s room ≡ x → length (telling_of x) ≤ 128
+    go (Ok Sound) e = omega arith
+    go (Ok (Mended c)) e = changes_short c (changes_small s room c e)
+    go (Err why) e = refused_short why

@@ -4,6 +4,8 @@ use mathlib.Core.Path.{◌≡◌, ◌∙◌, sym, refl, ap}
 use mathlib.Core.List.{List, [], ◌∷◌, append_assoc}
 use Prim.Native.Nat.{ℕ}
 use borrow.Author.Tests.{eq-eqb, ne_eqb}
+use Rattle.std.specs.Prelude.{Result}
+use Rattle.kept.specs.declared.Unsalvaged.{Unsalvaged}
 use Rattle.text.specs.Ascii.{ascii}
 use Rattle.text.proofs.Laid.{Put, put_as, put_then}
 use Rattle.lines.specs.Forms.{filled_in}
@@ -58,6 +60,6 @@ changes_put o at c p q r =
     (put_then o at _ _ (put_then o at _ _ p q) r)
 
 -- the returns of `put`: the answer is one of its cases
-pub told_as : (o : List ℕ) (at : ℕ) (x : Salvaged) {y : Salvaged} {text : List ℕ} {o' : List ℕ} {at' : ℕ} → x ≡ y
+pub told_as : (o : List ℕ) (at : ℕ) (x : Result Salvaged Unsalvaged) {y : Result Salvaged Unsalvaged} {text : List ℕ} {o' : List ℕ} {at' : ℕ} → x ≡ y
     → text ≡ telling_of y → Put o at text at' o' → Put o at (telling_of x) at' o'
 told_as o at x e t p = put_as o at _ (telling_of x) (t ∙ ap telling_of (sym e)) p

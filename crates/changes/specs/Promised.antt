@@ -1,5 +1,5 @@
 -- What holds of every telling of a salvaging's changes (document 02, K2).
-use Rattle.std.specs.Prelude.{◌≡◌, List, [], ◌++◌, ℕ, ◌<◌, ◌≤◌, length}
+use Rattle.std.specs.Prelude.{◌≡◌, List, [], ◌++◌, ℕ, ◌<◌, ◌≤◌, length, Ok}
 use Rattle.text.specs.Ascii.{ascii}
 use Rattle.text.specs.Decimal.{decimal}
 use Rattle.salvage.specs.Salvaging.{salvage_of, refusal_of}
@@ -17,9 +17,9 @@ last_lines c =
 unfoldable pub ChangesTold : Type 0
 ChangesTold =
     (s : List ℕ) (room : ℕ) (c : Changes)
-    → (salvage_of s room ≡ Sound → telling_of (salvage_of s room) ≡ [])
-    × (salvage_of s room ≡ Mended c → c.dropped ≡ 0 → telling_of (salvage_of s room) ≡ last_lines c)
-    × (salvage_of s room ≡ Mended c → 0 < c.dropped
+    → (salvage_of s room ≡ Ok Sound → telling_of (salvage_of s room) ≡ [])
+    × (salvage_of s room ≡ Ok (Mended c) → c.dropped ≡ 0 → telling_of (salvage_of s room) ≡ last_lines c)
+    × (salvage_of s room ≡ Ok (Mended c) → 0 < c.dropped
     → telling_of (salvage_of s room)
     ≡ ascii "dropped "
     ++ (decimal c.dropped ++ (ascii " bytes from " ++ (decimal c.from ++ (ascii "\n" ++ last_lines c)))))

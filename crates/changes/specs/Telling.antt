@@ -1,12 +1,13 @@
 -- The lines in which a salvaging tells what it changed (document 02, K2): "bytes dropped from where, frames kept, end
 -- written", a line each. Words and numbers are one space apart and each line ends in a newline.
-use Rattle.std.specs.Prelude.{cond, List, [], ◌++◌, ℕ, eqb}
+use Rattle.std.specs.Prelude.{cond, List, [], ◌++◌, ℕ, eqb, Result, Ok, Err}
+use Rattle.kept.specs.declared.Unsalvaged.{Unsalvaged}
 use Rattle.text.specs.Ascii.{ascii}
 use Rattle.text.specs.Decimal.{decimal}
 use Rattle.kept.specs.Planning.{number_of}
 use Rattle.salvage.specs.declared.Changes.{Changes}
 use Rattle.salvage.specs.declared.Salvaged.{Salvaged}
-use Rattle.salvage.specs.declared.Salvaged.TheVariants.{Sound, Mended, Refused}
+use Rattle.salvage.specs.declared.Salvaged.TheVariants.{Sound, Mended}
 
 unfoldable pub dropped_line : ℕ → ℕ → List ℕ
 dropped_line bytes from = ascii "dropped " ++ (decimal bytes ++ (ascii " bytes from " ++ (decimal from ++ ascii "\n")))
@@ -28,7 +29,7 @@ unfoldable pub changes_text : Changes → List ℕ
 changes_text c = dropped_text c.dropped c.from ++ (kept_line c.frames ++ end_line c.end)
 
 -- a sound recording has an empty list, a refusal one line
-abbrev pub telling_of : Salvaged → List ℕ
-telling_of Sound = []
-telling_of (Mended changes) = changes_text changes
-telling_of (Refused why) = refused_line (number_of why)
+abbrev pub telling_of : Result Salvaged Unsalvaged → List ℕ
+telling_of (Ok Sound) = []
+telling_of (Ok (Mended changes)) = changes_text changes
+telling_of (Err why) = refused_line (number_of why)

@@ -7,21 +7,19 @@ ghost use Rattle.text.specs.Laid.{laid, after};
 ghost use Rattle.lines.specs.Forms.{form_text};
 ghost use Rattle.changes.specs.Telling.{dropped_line, kept_line, end_line, refused_line, dropped_text, changes_text, telling_of};
 
+use kept::Unsalvaged;
 use lines::Form;
 use salvage::{Changes, Salvaged};
 
 // Lays the lines of a salvaging's answer.
-pub fn put(out: &mut [u8], at: usize, salvaged: Salvaged) -> usize
+pub fn put(out: &mut [u8], at: usize, salvaged: Result<Salvaged, Unsalvaged>) -> usize
     ensures value { result ≡ after out.old at (telling_of salvaged) }
     ensures out_after { out.new ≡ laid out.old at (telling_of salvaged) }
 {
     match salvaged {
-        Salvaged::Sound => text::least(at, out.len()),
-        Salvaged::Mended(changes) => put_changes(out, at, changes),
-        Salvaged::Refused(why) => {
-            let number = why.refusal_number();
-            lines::put_form(out, at, refused(number))
-        }
+        Ok(Salvaged::Sound) => at.min(out.len()),
+        Ok(Salvaged::Mended(changes)) => put_changes(out, at, changes),
+        Err(why) => lines::put_form(out, at, refused(why.refusal_number())),
     }
 }
 
@@ -41,7 +39,7 @@ fn put_dropped(out: &mut [u8], at: usize, bytes: usize, from: usize) -> usize
     ensures out_after { out.new ≡ laid out.old at (dropped_text bytes from) }
 {
     if bytes == 0 {
-        return text::least(at, out.len());
+        return at.min(out.len());
     }
     lines::put_form(out, at, dropped(bytes, from))
 }

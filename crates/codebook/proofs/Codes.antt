@@ -1,30 +1,29 @@
--- The returns of `write_code`: each refusal, and the sixty elements. The turns of `copy_from`.
+-- The returns of `write_code`: each refusal, and the sixty elements. What `copy_from` copies.
 -- Assumes nothing.
-use mathlib.Core.Path.{◌≡◌, ◌∙◌, sym, refl}
+use mathlib.Core.Path.{◌≡◌, refl}
 use mathlib.Core.List.{List}
 use Prim.Native.Nat.{ℕ, ◌+◌, ◌-◌, ◌*◌, ◌<◌, ◌≤◌}
 use native.Mathlib.Omega.{arith}
 use borrow.Author.Tests.{eq-eqb, ne_eqb, le-leb, lt-leb}
-use lib.IntN.{ℤ, pos}
-use lib.ListN.{length, get_or, set}
-use Rattle.laws.proofs.Filled.{Copied, copied_none, copied_more, copied_all}
+use lib.IntN.{ℤ}
+use lib.ListN.{length, take, drop}
+use Rattle.std.specs.Prelude.{Result, Ok, Err}
 use Rattle.codebook.specs.Book.{book}
 use Rattle.codebook.specs.Code.{code_of, written_of, code_left}
-use Rattle.codebook.specs.declared.Written.{Written}
-use Rattle.codebook.specs.declared.Written.TheVariants.{Code, WrongLength, TooLarge}
-use Rattle.codebook.proofs.Laws.{length_code, code_element}
+use Rattle.codebook.specs.declared.Refusal.{Refusal}
+use Rattle.codebook.specs.declared.Refusal.TheVariants.{WrongLength, TooLarge}
 
 -- an answer, and what it leaves in a buffer that held l
-abbrev pub Answers : ℕ → List ℤ → Written → List ℤ → Type 0
+abbrev pub Answers : ℕ → List ℤ → Result (Unit {0}) Refusal → List ℤ → Type 0
 Answers n l r left = (r ≡ written_of n (length l)) × (left ≡ code_left n l)
 
 -- a buffer that is not sixty elements is refused, and stays
-pub refused_length : (n : ℕ) (l : List ℤ) → (length l ≡ 60 → ⊥) → Answers n l WrongLength l
+pub refused_length : (n : ℕ) (l : List ℤ) → (length l ≡ 60 → ⊥) → Answers n l (Err WrongLength) l
 unfolding code_left
 refused_length n l h = let t = ne_eqb (length l) 60 h in (rw t refl, rw t refl)
 
 -- an index over 511 is refused, and the buffer stays
-pub refused_index : (n : ℕ) (l : List ℤ) → length l ≡ 60 → 511 < n → Answers n l TooLarge l
+pub refused_index : (n : ℕ) (l : List ℤ) → length l ≡ 60 → 511 < n → Answers n l (Err TooLarge) l
 unfolding code_left
 refused_index n l e h =
     let t = eq-eqb (length l) 60 e in
@@ -32,26 +31,17 @@ refused_index n l e h =
     (rw (t, u) refl, rw (t, u) refl)
 
 -- an index and a buffer within their bounds have the code written
-pub laid : (n : ℕ) (l left : List ℤ) → length l ≡ 60 → n ≤ 511 → left ≡ code_of n → Answers n l Code left
+pub laid : (n : ℕ) (l left : List ℤ) → length l ≡ 60 → n ≤ 511 → left ≡ code_of n → Answers n l (Ok tt) left
 unfolding code_left
 laid n l left e h p =
     let t = eq-eqb (length l) 60 e in
     let u = le-leb n 511 h in
     (rw (t, u) refl, rw (t, u) p)
 
--- before the first turn nothing of the code is copied
-pub none_copied : (n : ℕ) {out : List ℤ} → length out ≡ 60 → Copied (pos 0) (code_of n) 0 out
-none_copied n {out} e = copied_none (pos 0) (code_of n) out (e ∙ sym (length_code n))
-
--- storing the element that stands k after the code's first one copies one more
-pub one_copied : (n : ℕ) {k : ℕ} {s out : List ℤ} (v : ℤ) → n ≤ 511 → s ≡ book
-    → Copied (pos 0) (code_of n) k out → k < 60
-    → v ≡ get_or s (1022 - 2 * n + k) (pos 0) → Copied (pos 0) (code_of n) (k + 1) (set out k v)
-one_copied n {k} {s} v a b p h e =
-    let d : 1022 - 2 * n + k ≡ 2 * (511 - n) + k = omega arith in
-    let w : get_or s (1022 - 2 * n + k) (pos 0) ≡ get_or (code_of n) k (pos 0) = rw (b, d) (sym (code_element n k h)) in
-    copied_more (pos 0) (code_of n) v p (omega (arith, length_code n)) (e ∙ w)
-
--- after the last turn the buffer is the code
-pub all_copied : (n : ℕ) {k : ℕ} {out : List ℤ} → Copied (pos 0) (code_of n) k out → 60 ≤ k → out ≡ code_of n
-all_copied n p h = copied_all (pos 0) (code_of n) p (omega (arith, length_code n))
+-- the sixty elements of the book from the code's first on are the code
+pub cut : (n : ℕ) {start : ℕ} {s : List ℤ} → s ≡ book → start ≡ 2 * (511 - n)
+    → take (start + 60 - start) (drop start s) ≡ code_of n
+unfolding code_of
+cut n {start} b e =
+    let long : start + 60 - start ≡ 60 = omega arith in
+    rw (long, b, e) refl

@@ -66,27 +66,26 @@ pub const BOOK: [i8; 1082] = [
     0, 0,
 ];
 
-// What writing a code comes to.
-#[derive(Clone, Copy)]
-pub enum Written {
-    Code,
+// Why a code is not written.
+#[derive(Clone, Copy, Debug, PartialEq, Eq)]
+pub enum Refusal {
     WrongLength,
     TooLarge,
 }
 
 // Writes the sixty elements of the code with this index into a buffer of sixty.
-pub fn write_code(index: u16, out: &mut [i8]) -> Written
+pub fn write_code(index: u16, out: &mut [i8]) -> Result<(), Refusal>
     ensures value { result ≡ written_of index (length out.old) }
     ensures out_after { out.new ≡ code_left index out.old }
 {
     if out.len() != 60 {
-        return Written::WrongLength;
+        return Err(Refusal::WrongLength);
     }
     if 511 < index {
-        return Written::TooLarge;
+        return Err(Refusal::TooLarge);
     }
     copy_code(index, out);
-    Written::Code
+    Ok(())
 }
 
 // Copies the code with this index, the constant being laid out for it here and for no refusal.
@@ -104,10 +103,6 @@ fn copy_from(elements: &[i8; 1082], index: u16, out: &mut [i8])
     ensures { out.new ≡ code_of index }
 {
     // 2(511 - n) for index n
-    let start = 1022 - 2 * index as usize;
-    let mut k = 0;
-    while k < 60 {
-        out[k] = elements[start + k];
-        k += 1;
-    }
+    let start = 1022 - 2 * usize::from(index);
+    out.copy_from_slice(&elements[start..start + 60]);
 }

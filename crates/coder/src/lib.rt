@@ -1,12 +1,12 @@
 // The coder of delays: four delays in twelfths to the four codes that are sent (3.5.4, 3.5.5), or a refusal.
 #![tactic(auto)]
 
-ghost use Rattle.std.specs.Prelude.{◌≡◌};
+ghost use Rattle.std.specs.Prelude.{◌≡◌, ◌≤◌};
 ghost use Rattle.delays.specs.Table.{bytes};
 ghost use Rattle.delays.specs.Codes.{coded_of};
 ghost use Rattle.delays.specs.Steps.{coded_pair, both_inside};
 
-use delays::{Coded, Pair};
+use delays::DelayRefusal;
 
 // The printed byte of each rank (3.5.4): down each column over both pages.
 #[rattlefmt::skip]
@@ -45,55 +45,46 @@ const BYTES: [u8; 256] = [
 
 // The codes of four delays in twelfths: subframe by subframe, first whether the delay is in the list, then whether it
 // is in the window.
-pub fn codes(delays: [u32; 4]) -> Coded
+pub fn codes(delays: [u32; 4]) -> Result<[u16; 4], DelayRefusal>
     ensures { result ≡ coded_of delays }
 {
-    match coded_pair(delays[0], delays[1]) {
-        Pair::FirstNotListed => Coded::NotListed(1),
-        Pair::SecondNotListed => Coded::NotListed(2),
-        Pair::SecondOutside => Coded::OutsideWindow(2),
-        Pair::Inside(a, b) => match coded_pair(delays[2], delays[3]) {
-            Pair::FirstNotListed => Coded::NotListed(3),
-            Pair::SecondNotListed => Coded::NotListed(4),
-            Pair::SecondOutside => Coded::OutsideWindow(4),
-            Pair::Inside(c, d) => both_inside(a, b, c, d),
-        },
-    }
+    let (a, b) = coded_pair(1, delays[0], delays[1])?;
+    let (c, d) = coded_pair(3, delays[2], delays[3])?;
+    Ok(both_inside(a, b, c, d))
 }
 
-// Two delays in twelfths, of subframes 1 and 2 or of 3 and 4: whether each is in the list, then whether the second is
-// in the window.
-fn coded_pair(first: u32, second: u32) -> Pair
-    ensures { result ≡ coded_pair first second }
+// Two delays in twelfths, of subframe 1 or 3 and the one after it: whether each is in the list, then whether the second is in
+// the window. Answers the rank of the first and the code of the second.
+fn coded_pair(subframe: u16, first: u32, second: u32) -> Result<(u8, u8), DelayRefusal>
+    requires { subframe ≤ 3 }
+    ensures { result ≡ coded_pair subframe first second }
 {
-    let before = delays::rank_with(first);
-    if 255 < before {
-        return Pair::FirstNotListed;
+    let next = subframe + 1;
+    let before = delays::rank_with(first).ok_or(DelayRefusal::NotListed(subframe))?;
+    let rank = delays::rank_with(second).ok_or(DelayRefusal::NotListed(next))?;
+    let low = delays::base(u16::from(before));
+    if u16::from(rank) < low {
+        return Err(DelayRefusal::OutsideWindow(next));
     }
-    let rank = delays::rank_with(second);
-    if 255 < rank {
-        return Pair::SecondNotListed;
-    }
-    let low = delays::base(before);
-    if rank < low {
-        return Pair::SecondOutside;
-    }
-    let step = rank - low;
+    let step = u16::from(rank) - low;
     if 63 < step {
-        return Pair::SecondOutside;
+        return Err(DelayRefusal::OutsideWindow(next));
     }
-    Pair::Inside(before as u8, step as u8)
+    Ok((before, step as u8))
 }
 
 // The codes where both pairs are inside their windows: the printed bytes of the first and third delay's ranks, and the
 // second and fourth code.
-fn both_inside(first: u8, second: u8, third: u8, fourth: u8) -> Coded
+fn both_inside(first: u8, second: u8, third: u8, fourth: u8) -> [u16; 4]
     ensures { result ≡ both_inside first second third fourth }
 {
     let bytes = bytes_by_rank();
-    let a = bytes[first as usize];
-    let c = bytes[third as usize];
-    Coded::Codes(a as u16, second as u16, c as u16, fourth as u16)
+    [
+        u16::from(bytes[usize::from(first)]),
+        u16::from(second),
+        u16::from(bytes[usize::from(third)]),
+        u16::from(fourth),
+    ]
 }
 
 // The printed byte of every rank, in their order.

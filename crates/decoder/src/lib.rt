@@ -6,15 +6,14 @@ ghost use Rattle.std.specs.Prelude.{◌≡◌};
 ghost use Rattle.values.specs.Values.{sync_state, values_of};
 
 use record::Record;
-use values::{LastSy, Outcome, State, Values};
+use values::{Outcome, State, Values};
 
 // The values of a record, given the state before it; or its refusal, the lowest number first.
 pub fn values_of(r: Record, before: State) -> Values
     ensures { result ≡ values_of r before }
 {
-    let field = r.too_large();
     let sp = r.sp;
-    if field != 0 {
+    if let Some(field) = r.too_large() {
         return Values::refused(Outcome::TooLarge(field), before);
     }
     if sp != 0 {
@@ -29,8 +28,7 @@ fn sync_kept(before: State, r: Record) -> State
 {
     let hz = before.hz;
     State {
-        begun: before.begun,
         hz,
-        last: LastSy::Was(r.sy),
+        last: Some(r.sy),
     }
 }

@@ -2,19 +2,21 @@
 -- Assumes nothing.
 use mathlib.Core.Path.{◌≡◌, ◌∙◌, sym, ap, subst}
 use mathlib.Core.Bool.{true}
-use mathlib.Core.List.{[], ◌∷◌}
+use mathlib.Core.List.{List, [], ◌∷◌}
 use Prim.Native.Nat.{ℕ, ◌+◌, ◌-◌, ◌*◌, ◌<◌, ◌≤◌}
 use native.Mathlib.Omega.{arith}
 use native.Mathlib.Decide.{dec_le}
 use lib.Dec.{T, leb, leb→le}
 use borrow.Author.Tests.{lt-ltb, le-leb, ltb-true, leb-true}
+use Rattle.std.specs.Prelude.{Result, Ok, Err}
 use Rattle.laws.proofs.Table.{both_left, both_right}
 use Rattle.laws.proofs.Unless.{goes_on}
 use Rattle.delays.specs.Table.{delays, twelfths_of, printed_byte, rank_of, rank_with}
 use Rattle.delays.specs.Codes.{base_of, after_of, four_meant, meant_by, listed, in_window, pair_of, coded_of}
-use Rattle.delays.specs.declared.Meant.TheVariants.{Delays, TooLarge}
-use Rattle.delays.specs.declared.Coded.{Coded}
-use Rattle.delays.specs.declared.Coded.TheVariants.{Codes, NotListed, OutsideWindow}
+use Rattle.delays.specs.declared.CodeRefusal.{CodeRefusal}
+use Rattle.delays.specs.declared.CodeRefusal.TheVariants.{TooLarge}
+use Rattle.delays.specs.declared.DelayRefusal.{DelayRefusal}
+use Rattle.delays.specs.declared.DelayRefusal.TheVariants.{NotListed, OutsideWindow}
 use Rattle.delays.proofs.Table.{twelfths_low, twelfths_high, twelfths_rise, rank_twelfths, twelfths_rank}
 use Rattle.delays.proofs.Table.{rank_byte, byte_below, rank_below, byte_rank}
 
@@ -73,7 +75,7 @@ pub record Fit (a b c d : ℕ) : Type 0 where
   pub fourth : d < 64
 
 -- an index too large is no answer of delays
-not_delays : {w x y z : ℕ} (n : ℕ) → TooLarge n ≡ Delays w x y z → ⊥
+not_delays : {ds : List ℕ} (n : ℕ) → ◌≡◌ {A = Result (List ℕ) CodeRefusal} (Err (TooLarge n)) (Ok ds) → ⊥
 not_delays n e = let z : ◌≡◌ {A = ℕ} 0 1 = cc in omega arith
 
 module _ (a b c d : ℕ) where
@@ -94,7 +96,7 @@ module _ (a b c d : ℕ) where
   fourth_meant = twelfths_of (after_of (rank_of c) d)
 
   -- codes that fit have them for their delays
-  pub fit_meant : Fit a b c d → four_meant a b c d ≡ Delays first_meant second_meant third_meant fourth_meant
+  pub fit_meant : Fit a b c d → four_meant a b c d ≡ Ok (first_meant ∷ second_meant ∷ third_meant ∷ fourth_meant ∷ [])
   fit_meant f =
       rw (
         le-leb a 255 (omega (arith, f.first)),
@@ -104,13 +106,13 @@ module _ (a b c d : ℕ) where
       )
 
   -- and codes that have delays fit
-  pub meant_fit : {w x y z : ℕ} → four_meant a b c d ≡ Delays w x y z
-      → Fit a b c d × (Delays first_meant second_meant third_meant fourth_meant ≡ Delays w x y z)
+  pub meant_fit : {ds : List ℕ} → four_meant a b c d ≡ Ok ds
+      → Fit a b c d × (ds ≡ first_meant ∷ second_meant ∷ third_meant ∷ fourth_meant ∷ [])
   meant_fit e =
-      let one = goes_on (leb a 255) (TooLarge 1) _ (not_delays 1) e in
-      let two = goes_on (leb b 63) (TooLarge 2) _ (not_delays 2) one.1 in
-      let three = goes_on (leb c 255) (TooLarge 3) _ (not_delays 3) two.1 in
-      let four = goes_on (leb d 63) (TooLarge 4) _ (not_delays 4) three.1 in
+      let one = goes_on (leb a 255) (Err (TooLarge 1)) _ (not_delays 1) e in
+      let two = goes_on (leb b 63) (Err (TooLarge 2)) _ (not_delays 2) one.1 in
+      let three = goes_on (leb c 255) (Err (TooLarge 3)) _ (not_delays 3) two.1 in
+      let four = goes_on (leb d 63) (Err (TooLarge 4)) _ (not_delays 4) three.1 in
       let fit : Fit a b c d =
       record {
         first = omega (arith, leb-true a 255 one.0);
@@ -118,10 +120,12 @@ module _ (a b c d : ℕ) where
         third = omega (arith, leb-true c 255 three.0);
         fourth = omega (arith, leb-true d 63 four.0);
       } in
-      (fit, four.1)
+      let is : ◌≡◌ {A = Result (List ℕ) CodeRefusal} (Ok (first_meant ∷ second_meant ∷ third_meant ∷ fourth_meant ∷ [])) (Ok _) =
+      four.1 in
+      (fit, cc)
 
   -- the delays of codes that fit have those codes
-  pub fit_back : Fit a b c d → coded_of (first_meant ∷ second_meant ∷ third_meant ∷ fourth_meant ∷ []) ≡ Codes a b c d
+  pub fit_back : Fit a b c d → coded_of (first_meant ∷ second_meant ∷ third_meant ∷ fourth_meant ∷ []) ≡ Ok (a ∷ b ∷ c ∷ d ∷ [])
   unfolding coded_of
   fit_back f =
       let first : rank_of a < 256 = rank_below a f.first in
@@ -145,17 +149,12 @@ module _ (a b c d : ℕ) where
         byte_rank c f.third,
       )
 
--- four delays known by their answer
-same_delays : {p q r s w x y z : ℕ} → Delays p q r s ≡ Delays w x y z → p ∷ q ∷ r ∷ s ∷ [] ≡ w ∷ x ∷ y ∷ z ∷ []
-same_delays e = cc
-
 -- codes to delays to codes: the codes come back
-pub codes_back : (a b c d w x y z : ℕ) → meant_by (a ∷ b ∷ c ∷ d ∷ []) ≡ Delays w x y z
-    → coded_of (w ∷ x ∷ y ∷ z ∷ []) ≡ Codes a b c d
+pub codes_back : (a b c d : ℕ) {ds : List ℕ} → meant_by (a ∷ b ∷ c ∷ d ∷ []) ≡ Ok ds → coded_of ds ≡ Ok (a ∷ b ∷ c ∷ d ∷ [])
 unfolding meant_by
-codes_back a b c d w x y z e =
+codes_back a b c d e =
     let m = meant_fit a b c d e in
-    ap coded_of (sym (same_delays m.1)) ∙ fit_back a b c d m.0
+    ap coded_of m.1 ∙ fit_back a b c d m.0
 
 -- what is meant lies between 20 and 147 samples
 abbrev pub Within : ℕ → Type 0
@@ -166,13 +165,13 @@ rank_within : (rank : ℕ) → rank < 256 → Within (twelfths_of rank)
 rank_within rank h = (twelfths_low rank h, twelfths_high rank h)
 
 -- so all four delays of codes that fit do
-pub meant_within : (a b c d w x y z : ℕ) → four_meant a b c d ≡ Delays w x y z
+pub meant_within : (a b c d w x y z : ℕ) → four_meant a b c d ≡ Ok (w ∷ x ∷ y ∷ z ∷ [])
     → Within w × Within x × Within y × Within z
 meant_within a b c d w x y z e =
     let m = meant_fit a b c d e in
     let f = m.0 in
-    let s : Delays (first_meant a b c d) (second_meant a b c d) (third_meant a b c d) (fourth_meant a b c d)
-    ≡ Delays w x y z = m.1 in (
+    let s : w ∷ x ∷ y ∷ z ∷ [] ≡ first_meant a b c d ∷ second_meant a b c d ∷ third_meant a b c d ∷ fourth_meant a b c d ∷ [] =
+    m.1 in (
       subst Within (cc) (rank_within (rank_of a) (rank_below a f.first)),
       subst Within (cc) (rank_within (after_of (rank_of a) b) (after_below (rank_of a) b f.second)),
       subst Within (cc) (rank_within (rank_of c) (rank_below c f.third)),
@@ -218,33 +217,32 @@ pair_back w x a b lw lx i ea eb =
     }
 
 -- a refusal is no answer of codes
-not_listed : {a b c d : ℕ} (n : ℕ) → NotListed n ≡ Codes a b c d → ⊥
-not_listed n e = let z : ◌≡◌ {A = ℕ} 0 1 = cc in omega arith
-
--- nor is one for the window
-outside : {a b c d : ℕ} (n : ℕ) → OutsideWindow n ≡ Codes a b c d → ⊥
-outside n e = let z : ◌≡◌ {A = ℕ} 0 1 = cc in omega arith
+not_codes : {is : List ℕ} (r : DelayRefusal) → ◌≡◌ {A = Result (List ℕ) DelayRefusal} (Err r) (Ok is) → ⊥
+not_codes r e = let z : ◌≡◌ {A = ℕ} 0 1 = cc in omega arith
 
 -- what two subframes that are not refused tell of their delays
-pair_on : {a b c d : ℕ} (n p q : ℕ) (rest : Coded) → pair_of n p q rest ≡ Codes a b c d
-    → (listed p ≡ true) × (listed q ≡ true) × (in_window (rank_with p) (rank_with q) ≡ true) × (rest ≡ Codes a b c d)
+pair_on : {is : List ℕ} (n p q : ℕ) (rest : Result (List ℕ) DelayRefusal) → pair_of n p q rest ≡ Ok is
+    → (listed p ≡ true) × (listed q ≡ true) × (in_window (rank_with p) (rank_with q) ≡ true) × (rest ≡ Ok is)
 pair_on n p q rest e =
-    let one = goes_on (listed p) (NotListed n) _ (not_listed n) e in
-    let two = goes_on (listed q) (NotListed (n + 1)) _ (not_listed (n + 1)) one.1 in
-    let three = goes_on (in_window (rank_with p) (rank_with q)) (OutsideWindow (n + 1)) rest (outside (n + 1)) two.1 in
+    let one = goes_on (listed p) (Err (NotListed n)) _ (not_codes (NotListed n)) e in
+    let two = goes_on (listed q) (Err (NotListed (n + 1))) _ (not_codes (NotListed (n + 1))) one.1 in
+    let three = goes_on (in_window (rank_with p) (rank_with q)) (Err (OutsideWindow (n + 1))) rest
+    (not_codes (OutsideWindow (n + 1))) two.1 in
     (one.0, two.0, three.0, three.1)
 
 -- delays to codes to delays: delays that are accepted come back
 module _ (w x y z a b c d : ℕ) where
   -- the codes that are answered mean the delays that were given
-  pub delays_back : coded_of (w ∷ x ∷ y ∷ z ∷ []) ≡ Codes a b c d → meant_by (a ∷ b ∷ c ∷ d ∷ []) ≡ Delays w x y z
+  pub delays_back : coded_of (w ∷ x ∷ y ∷ z ∷ []) ≡ Ok (a ∷ b ∷ c ∷ d ∷ [])
+      → meant_by (a ∷ b ∷ c ∷ d ∷ []) ≡ Ok (w ∷ x ∷ y ∷ z ∷ [])
   unfolding coded_of meant_by
   delays_back e =
       let on = pair_on 1 w x _ e in
       let off = pair_on 3 y z _ on.3 in
       let step = rank_with x - base_of (rank_with w) in
-      let last : Codes (printed_byte (rank_with w)) step (printed_byte (rank_with y)) (rank_with z - base_of (rank_with y))
-      ≡ Codes a b c d =
+      let next = rank_with z - base_of (rank_with y) in
+      let last : ◌≡◌ {A = Result (List ℕ) DelayRefusal}
+      (Ok (printed_byte (rank_with w) ∷ step ∷ printed_byte (rank_with y) ∷ next ∷ [])) (Ok (a ∷ b ∷ c ∷ d ∷ [])) =
       off.3 in
       let p = pair_back w x a b on.0 on.1 on.2 (cc) (cc) in
       let q = pair_back y z c d off.0 off.1 off.2 (cc) (cc) in

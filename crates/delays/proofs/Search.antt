@@ -4,12 +4,14 @@ use mathlib.Core.Path.{◌≡◌, ◌∙◌, sym, refl, ap}
 use mathlib.Core.Bool.{cond}
 use Prim.Native.Nat.{ℕ, ◌+◌, ◌-◌, ◌/◌, ◌%◌, ◌<◌, ◌≤◌}
 use native.Mathlib.Omega.{arith}
-use native.Mathlib.Nat.{div-le_self}
 use native.Mathlib.Decide.{ℕ_discrete, dec_lt}
 use borrow.Author.Tests.{lt-ltb, le-ltb, eq-eqb, ne_eqb}
 use lib.Dec.{ltb}
 use Rattle.laws.proofs.Place.{place_within}
 use Rattle.delays.specs.Table.{delays, twelfths_of, rank_with}
+use Rattle.std.specs.Prelude.{Some, Result, Ok, Err}
+use Rattle.std.specs.Result.{OkIff, result_ok}
+use Rattle.delays.specs.Codes.{rank_found}
 use Rattle.delays.specs.Steps.{rank_in}
 use Rattle.delays.proofs.Table.{delays_long, searched, searched_twelfths, rank_twelfths, twelfths_rank}
 use Rattle.delays.proofs.Table.{in_first_thirds, in_quarters, in_second_thirds, in_wholes}
@@ -30,6 +32,11 @@ unlisted delay e = here (dec_lt (rank_with delay) 256)
 has : (delay rank : ℕ) → rank < 256 → twelfths_of rank ≡ delay → rank ≡ rank_with delay
 has delay rank h e = sym (rank_twelfths rank h) ∙ ap rank_with e
 
+-- a number that goes into a byte is a rank that is found
+pub narrowed : {E : Type 0} (n : ℕ) (r : Result ℕ E) → OkIff r (n < 256) n → result_ok r ≡ rank_found n
+narrowed n (Ok x) h = rw (lt-ltb n 256 h.0) (ap Some h.1)
+narrowed n (Err e) h = rw (le-ltb n 256 (omega (arith, h))) refl
+
 -- what the two ways through a stretch answer
 module _ (from step first delay : ℕ) where
   -- a delay between two steps has no rank in it
@@ -39,10 +46,6 @@ module _ (from step first delay : ℕ) where
   -- any other one has the rank that is so many steps on
   pub on_step : (delay - from) % step ≡ 0 → first + (delay - from) / step ≡ rank_in from step first delay
   on_step e = rw (eq-eqb ((delay - from) % step) 0 e) refl
-
-  -- which is a small number where both are
-  pub steps_small : delay - from ≤ 1000 → first ≤ 256 → first + (delay - from) / step ≤ 1256
-  steps_small h l = omega (arith, div-le_self (delay - from) step)
 
   -- where the stretch is searched and the rank so many steps on has the delay, what the stretch answers is its rank
   in_stretch : searched delay ≡ rank_in from step first delay

@@ -5,7 +5,7 @@
 
 ghost use Rattle.std.specs.Prelude.{◌≡◌, ◌-◌, ◌≤◌};
 ghost use Rattle.delays.specs.Table.{twelfths_of, rank_with};
-ghost use Rattle.delays.specs.Codes.{base_of};
+ghost use Rattle.delays.specs.Codes.{base_of, rank_found};
 ghost use Rattle.delays.specs.Steps.{rank_in};
 
 // The lowest rank of the window after a rank.
@@ -39,12 +39,12 @@ pub fn twelfths(rank: u8) -> u16
     960 + 12 * (wide - 188)
 }
 
-// The rank of a delay in twelfths, back through the same stretches, or 256 if the list has no such delay.
-pub fn rank_with(delay: u32) -> u16
-    ensures { result ≡ rank_with delay }
+// The rank of a delay in twelfths, back through the same stretches, if the list has such a delay.
+pub fn rank_with(delay: u32) -> Option<u8>
+    ensures { result ≡ rank_found (rank_with delay) }
 {
     if delay < 240 {
-        return 256;
+        return None;
     }
     if delay < 312 {
         return rank_in(delay, 240, 4, 0);
@@ -58,44 +58,31 @@ pub fn rank_with(delay: u32) -> u16
     if delay < 1776 {
         return rank_in(delay, 960, 12, 188);
     }
-    256
+    None
 }
 
-// The rank of a delay in the stretch that starts at a delay and a rank and goes on by a step, or 256 if it is between
-// two steps.
-fn rank_in(delay: u32, from: u32, step: u32, first: u32) -> u16
+// The rank of a delay in the stretch that starts at a delay and a rank and goes on by a step, if it is on a step.
+fn rank_in(delay: u32, from: u32, step: u32, first: u32) -> Option<u8>
     requires from_le_delay { (from ≤ delay) × (delay - from ≤ 1000) }
     requires le_step { (1 ≤ step) × (first ≤ 256) }
-    ensures { result ≡ rank_in from step first delay }
+    ensures { result ≡ rank_found (rank_in from step first delay) }
 {
     let past = delay - from;
     if past % step != 0 {
-        return 256;
+        return None;
     }
-    (first + past / step) as u16
+    u8::try_from(first + past / step).ok()
 }
 
-// What four codes mean: the delays in twelfths, or the first subframe whose code is too large.
-#[derive(Clone, Copy)]
-pub enum Meant {
-    Delays(u16, u16, u16, u16),
-    TooLarge(usize),
+// Why four codes mean no delays, with the first such subframe.
+#[derive(Clone, Copy, Debug, PartialEq, Eq)]
+pub enum CodeRefusal {
+    TooLarge(u16),
 }
 
-// The codes of four delays, or the first refusal, with its subframe.
-#[derive(Clone, Copy)]
-pub enum Coded {
-    Codes(u16, u16, u16, u16),
+// Why four delays have no codes, with the first such subframe.
+#[derive(Clone, Copy, Debug, PartialEq, Eq)]
+pub enum DelayRefusal {
     NotListed(u16),
     OutsideWindow(u16),
-}
-
-// The delays of subframes 1 and 2, or 3 and 4: the rank of the first and the six-bit code of the second, or what the
-// refusal is.
-#[derive(Clone, Copy)]
-pub enum Pair {
-    Inside(u8, u8),
-    FirstNotListed,
-    SecondNotListed,
-    SecondOutside,
 }

@@ -1,14 +1,12 @@
 -- Whole numbers on sixteen bits: the remainder on 65,536, and that the sum of two numbers' bits is the wrapped sum of
 -- the numbers.
 -- Assumes nothing.
-use Rattle.std.proofs.Common.{◌≡◌, ℕ, suc, ◌+◌, ◌-◌, ◌%◌, ◌^◌, ◌<◌, ◌≤◌, true, false, T, ℤ, pos, negsuc, ◌+ℤ◌, ◌-ℤ◌, ◌*ℤ◌, neg_ℤ, nat_abs, sym, refl, ap, ◌∙◌, subst, true≢false, arith, to_z-of_z, w16, w32, Fits, SFits, to_z, of_z, ltb-true, le-ltb, lt-ltb}
+use Rattle.std.proofs.Common.{◌≡◌, ℕ, suc, ◌+◌, ◌-◌, ◌%◌, ◌<◌, ◌≤◌, ℤ, pos, negsuc, ◌+ℤ◌, ◌-ℤ◌, ◌*ℤ◌, neg_ℤ, sym, refl, ap, ◌∙◌, arith, w16, SFits, to_z, of_z, le-ltb, lt-ltb}
 use native.Mathlib.Decide.{dec_le}
 use lib.IntN.{sub_ℕ, +ℤ_idr, +ℤ_assoc, -ℤ-+ℤ_cancel, +ℤ_one, -ℤ_one}
 use lib.IntN.{suc_ℤ-*ℤ, pred_ℤ-*ℤ, ℤ_ind}
-use lib.Signed.{mag, non_neg, lt_z}
-use mir.Val.{hbits}
-use mir.Facts.{sfits_widen, sfits_to_z, to_z_pos, to_z-neg}
-use borrow.Author.Rules.{sfits_of}
+use lib.Signed.{mag}
+use mir.Facts.{to_z_pos, to_z-neg}
 use Rattle.draws.specs.Draw.{wrapped}
 
 -- a − b, for two naturals
@@ -146,71 +144,6 @@ sum_below (pos m) (negsuc n) f g = under m n f.sfits g.sfits
 sum_below (negsuc m) (pos n) f g = under n m g.sfits f.sfits
 sum_below (negsuc m) (negsuc n) f g = omega (arith, f.sfits, g.sfits)
 
--- what is left is below 65,536, so a wrapped number is within the range
-remainder_fits : (z : ℤ) → Fits w16 (remainder z)
-remainder_fits (pos n) = record { fits = omega arith }
-remainder_fits (negsuc n) = record { fits = omega arith }
-
--- so the wrapped number has sixteen bits
-pub wrapped_fits : (z : ℤ) → mag z < 65536 → SFits w16 (wrapped z)
-wrapped_fits z h = subst (SFits w16) (remainder_read z h) (sfits_to_z (remainder_fits z))
-
 -- what is drawn: the sum of the bits, read as signed, is the wrapped sum
 pub bits_sum : (a b : ℤ) → SFits w16 a → SFits w16 b → to_z w16 ((of_z w16 a + of_z w16 b) % 65536) ≡ wrapped (a +ℤ b)
 bits_sum a b f g = ap (to_z w16) (remainder_sum a b f g) ∙ remainder_read (a +ℤ b) (sum_below a b f g)
-
--- what sixteen bits hold thirty-two do
-pub wider : {x : ℤ} → SFits w16 x → SFits w32 x
-wider f = sfits_widen {w = w16} {w' = w32} tt f
-
--- a number of sixteen bits passes through thirty-two unchanged
-pub widened : (x : ℤ) → SFits w16 x → to_z w32 (of_z w32 (to_z w16 (of_z w16 x))) ≡ x
-widened x f = ap (λ (y : ℤ). to_z w32 (of_z w32 y)) (to_z-of_z f) ∙ to_z-of_z (wider f)
-
--- a negative number and 65,536 is its bits
-pub record Lifted (x : ℤ) : Type 0 where
-  pub wide : SFits w32 (x +ℤ pos 65536)
-  pub sign : T (non_neg (x +ℤ pos 65536))
-  pub fits : Fits w16 (nat_abs (x +ℤ pos 65536))
-  pub is : nat_abs (x +ℤ pos 65536) ≡ of_z w16 x
-
--- every negative number of sixteen bits is so
-pub lifted : (x : ℤ) → SFits w16 x → lt_z x (pos 0) ≡ true → Lifted x
-lifted (pos n) f t = absurd (let h = ltb-true n 0 t in omega arith)
-lifted (negsuc n) f t =
-    let e = sub_over 65536 (suc n) (omega (arith, f.sfits)) in
-    record {
-      wide = rw e (sfits_of (omega arith));
-      sign = rw e tt;
-      fits = rw e (record { fits = omega arith });
-      is = rw e refl;
-    }
-
--- any other number is its own bits
-pub record Plain (x : ℤ) : Type 0 where
-  pub sign : T (non_neg x)
-  pub fits : Fits w16 (nat_abs x)
-  pub is : nat_abs x ≡ of_z w16 x
-
--- every other one is so
-pub plain : (x : ℤ) → SFits w16 x → lt_z x (pos 0) ≡ false → Plain x
-plain (pos n) f t = record { sign = tt; fits = record { fits = omega (arith, f.sfits) }; is = refl }
-plain (negsuc n) f t = absurd (let z : true ≡ false = t in true≢false z)
-
--- bits from half of their range on stand for 65,536 less
-pub record Lowered (x : ℕ) : Type 0 where
-  pub wide : SFits w32 (to_z w32 x -ℤ pos 65536)
-  pub fits : SFits w16 (to_z w32 x -ℤ pos 65536)
-  pub is : to_z w32 x -ℤ pos 65536 ≡ to_z w16 x
-
--- all such bits are so
-pub lowered : (x : ℕ) → x < 65536 → 32768 ≤ x → Lowered x
-lowered x h l =
-    let u : x < 2 ^ hbits w32 = omega arith in
-    let e : to_z w32 x -ℤ pos 65536 ≡ negsuc (65535 - x) =
-    ap (λ (y : ℤ). y -ℤ pos 65536) (to_z_pos w32 u) ∙ sub_under x 65536 h ∙ ap negsuc (omega arith) in
-    record {
-      wide = rw e (sfits_of (omega arith));
-      fits = rw e (sfits_of (omega arith));
-      is = e ∙ sym (read_high (65535 - x) x (omega arith) (omega arith));
-    }

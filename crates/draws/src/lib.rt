@@ -2,12 +2,8 @@
 // A generator is five kept numbers and two positions in them; a draw is kept at the first, and both move one down.
 #![tactic(auto)]
 
-ghost use Rattle.std.specs.Prelude.{◌≡◌, ◌≤◌, ◌+ℤ◌};
-ghost use Rattle.std.specs.Int.{w16};
-ghost use Rattle.std.proofs.Common.{of_z, to_z};
-ghost use Rattle.draws.specs.Draw.{fresh_generator, draw_of, wrapped, position_of, moved_of};
-
-use std::num::wrapping_add_u16;
+ghost use Rattle.std.specs.Prelude.{◌≡◌, ◌≤◌};
+ghost use Rattle.draws.specs.Draw.{fresh_generator, draw_of, position_of, moved_of};
 
 // The five kept numbers y of 3.3.1 and two positions in them: the first is k, where each draw is kept, the second j.
 #[derive(Clone, Copy)]
@@ -43,9 +39,9 @@ impl Generator {
         let mut kept = self.kept;
         let first = position(self.first);
         let second = position(self.second);
-        let k = (first - 1) as usize;
-        let j = (second - 1) as usize;
-        let value = wrapping_sum(kept[k], kept[j]);
+        let k = usize::from(first - 1);
+        let j = usize::from(second - 1);
+        let value = kept[k].wrapping_add(kept[j]);
         kept[k] = value;
         let generator = Generator {
             kept,
@@ -69,34 +65,4 @@ fn moved(p: u16) -> u16
     ensures { result ≡ moved_of p }
 {
     if p <= 1 { 5 } else { p - 1 }
-}
-
-// The sum on sixteen bits.
-fn wrapping_sum(a: i16, b: i16) -> i16
-    ensures { result ≡ wrapped (a +ℤ b) }
-{
-    signed(wrapping_add_u16(bits(a), bits(b)))
-}
-
-// The sixteen bits of a number.
-fn bits(x: i16) -> u16
-    ensures { result ≡ of_z w16 x }
-{
-    let wide = x as i32;
-    if wide < 0 {
-        (wide + 65536) as u16
-    } else {
-        wide as u16
-    }
-}
-
-// The number that sixteen bits stand for.
-fn signed(x: u16) -> i16
-    ensures { result ≡ to_z w16 x }
-{
-    if x < 32768 {
-        x as i16
-    } else {
-        (x as i32 - 65536) as i16
-    }
 }

@@ -13,24 +13,9 @@ pub fn put_head(out: &mut [u8], heading: Heading) -> usize
     ensures value { result ≡ after out.old 0 (head_block heading) }
     ensures out_after { out.new ≡ laid out.old 0 (head_block heading) }
 {
-    let unit = heading.unit;
-    let number = heading.number;
-    let bytes = [
-        8,
-        0,
-        0,
-        0,
-        1,
-        0,
-        (unit % 256) as u8,
-        (unit / 256 % 256) as u8,
-        (unit / 256 / 256 % 256) as u8,
-        (unit / 256 / 256 / 256) as u8,
-        (number % 256) as u8,
-        (number / 256 % 256) as u8,
-        (number / 256 / 256 % 256) as u8,
-        (number / 256 / 256 / 256) as u8,
-    ];
+    let [a, b, c, d] = heading.unit.to_le_bytes();
+    let [e, f, g, h] = heading.number.to_le_bytes();
+    let bytes = [8, 0, 0, 0, 1, 0, a, b, c, d, e, f, g, h];
     text::put_word(out, 0, &bytes)
 }
 
@@ -39,17 +24,7 @@ pub fn put_end(out: &mut [u8], at: usize, frames: u32) -> usize
     ensures value { result ≡ after out.old at (end_block frames) }
     ensures out_after { out.new ≡ laid out.old at (end_block frames) }
 {
-    let bytes = [
-        4,
-        0,
-        0,
-        0,
-        3,
-        0,
-        (frames % 256) as u8,
-        (frames / 256 % 256) as u8,
-        (frames / 256 / 256 % 256) as u8,
-        (frames / 256 / 256 / 256) as u8,
-    ];
+    let [a, b, c, d] = frames.to_le_bytes();
+    let bytes = [4, 0, 0, 0, 3, 0, a, b, c, d];
     text::put_word(out, at, &bytes)
 }

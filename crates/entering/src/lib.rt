@@ -7,11 +7,11 @@ ghost use Rattle.tally.specs.Book.{entries_in, tallied, book_then};
 ghost use Rattle.tally.specs.Steps.{tally_or_full, appended};
 ghost use Rattle.tally.specs.Entering.{entry_of, entering_of, book_after_recording};
 
-use blocks::{Ending, Heading};
-use tally::{Entering, Entry, Tallied};
+use blocks::Heading;
+use tally::{Entry, RecordingRefusal, Refusal, Tallied};
 
 // Enters an entry: a new key where there is room; else the book is as it was.
-pub fn enter(book: &mut [u32; tally::WORDS], entry: Entry) -> Tallied
+pub fn enter(book: &mut [u32; tally::WORDS], entry: Entry) -> Result<Tallied, Refusal>
     ensures value { result ≡ tallied book.old entry }
     ensures book_after { book.new ≡ book_then book.old entry }
 {
@@ -20,49 +20,45 @@ pub fn enter(book: &mut [u32; tally::WORDS], entry: Entry) -> Tallied
     let row = asking::row_of(book, unit, number);
     let held = tally::entries(book) as usize;
     if row < held {
-        let held_at = 8193 + row;
+        let held_at = tally::COUNTS + row;
         if book[held_at] == entry.count {
-            return Tallied::AlreadyHeld;
+            return Ok(Tallied::AlreadyHeld);
         }
-        return Tallied::OtherCount;
+        return Err(Refusal::OtherCount);
     }
     append(book, row, entry)
 }
 
 // Lays an entry into the row after those that a book holds, where there is one.
-fn append(book: &mut [u32; tally::WORDS], row: usize, entry: Entry) -> Tallied
+fn append(book: &mut [u32; tally::WORDS], row: usize, entry: Entry) -> Result<Tallied, Refusal>
     requires { row ≡ entries_in book.old }
     ensures value { result ≡ tally_or_full book.old }
     ensures book_after { book.new ≡ appended book.old entry }
 {
-    if row < 4096 {
-        let number_at = 1 + row;
-        book[number_at] = entry.number;
-        let unit_at = 4097 + row;
-        book[unit_at] = entry.unit;
-        let count_at = 8193 + row;
-        book[count_at] = entry.count;
+    if row < tally::ROWS {
+        book[tally::NUMBERS + row] = entry.number;
+        book[tally::UNITS + row] = entry.unit;
+        book[tally::COUNTS + row] = entry.count;
         book[0] = row as u32 + 1;
-        return Tallied::Entered;
+        return Ok(Tallied::Entered);
     }
-    Tallied::Full
+    Err(Refusal::Full)
 }
 
 // Enters a recording with the count that was spoken in it: its own refusal first, and then as its unit and number are
 // entered.
-pub fn enter_recording(book: &mut [u32; tally::WORDS], s: &[u8], count: u32) -> Entering
+pub fn enter_recording(
+    book: &mut [u32; tally::WORDS],
+    s: &[u8],
+    count: u32,
+) -> Result<Tallied, RecordingRefusal>
     ensures value { result ≡ entering_of book.old s.now count }
     ensures book_after { book.new ≡ book_after_recording book.old s.now count }
 {
     let walked = walk::walk_through(s);
-    let ending = walked.ending;
-    match ending {
-        Ending::Refused(cause) => Entering::Refused(cause),
-        Ending::Sound => {
-            let entry = entry_of(walked.walk.heading, count);
-            Entering::Done(enter(book, entry))
-        }
-    }
+    walked.ending?;
+    let entry = entry_of(walked.walk.heading, count);
+    Ok(enter(book, entry)?)
 }
 
 // The entry of a recording: what its head tells, and the count.

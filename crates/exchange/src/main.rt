@@ -9,55 +9,52 @@ mod hearing;
 mod places;
 mod say;
 
-use input::STDIN;
+use std::io::{self, Read, Write};
 
-// Nothing says that the input ends, so the turns are counted down from a number that no input uses up.
-fn main() {
-    let mut turns = u64::MAX;
-    while 0 < turns && one() {
-        turns -= 1;
-    }
+fn main(rt: HostRuntime) {
+    let _ = all(&mut rt.stdin(), &mut rt.stdout());
 }
 
-// One case: 128 bytes. Answers whether there was one.
-fn one() -> bool {
+// Case after case, of 128 bytes each. Nothing says that the input ends, so there are as many turns as no input uses up.
+fn all(stdin: &mut impl Read, out: &mut impl Write) -> io::Result<()> {
     let mut case = [0u8; 128];
-    let n = io::read_full(STDIN, &mut case);
-    if n < 128 {
-        return false;
+    for _ in 0..u64::MAX {
+        if input::read_all(stdin, &mut case)? < 128 {
+            break;
+        }
+        answer(out, &case)?;
     }
-    answer(&case);
-    true
+    Ok(())
 }
 
 // The line of a case: its kind, how many bytes are given, a number, and the bytes.
-fn answer(case: &[u8; 128]) {
-    given(case, case[0], case[1], pair(case[2], case[3]));
-    say::end();
+fn answer(out: &mut impl Write, case: &[u8; 128]) -> io::Result<()> {
+    given(out, case, case[0], case[1], pair(case[2], case[3]))?;
+    writeln!(out)
 }
 
 // Two bytes as a number, the lower first.
 fn pair(low: u8, high: u8) -> usize {
-    low as usize + 256 * high as usize
+    u16::from_le_bytes([low, high]) as usize
 }
 
 // The same, with the bytes that are given.
-fn given(case: &[u8], kind: u8, long: u8, n: usize) {
+fn given(out: &mut impl Write, case: &[u8], kind: u8, long: u8, n: usize) -> io::Result<()> {
     let end = 4 + long as usize;
     if case.len() < end {
-        return;
+        return Ok(());
     }
     let part = &case[4..end];
     match kind {
-        b'r' => boundary::read(part, n),
-        b'w' => boundary::write(part, n),
-        b'k' => places::frame(part, n),
-        b'c' => corrections::any(n),
-        b'm' => corrections::mend(part, n),
-        b'f' => places::find(part, n),
-        b'p' => places::next(part, n),
-        b'h' => hearing::hear(part),
-        b'b' => hearing::block(part, n),
-        _ => places::values(part, n),
+        b'r' => boundary::read(out, part, n),
+        b'w' => boundary::write(out, part, n),
+        b'k' => places::frame(out, part, n),
+        b'c' => corrections::any(out, n),
+        b'm' => corrections::mend(out, part, n),
+        b'f' => places::find(out, part, n),
+        b'p' => places::next(out, part, n),
+        b'h' => hearing::hear(out, part),
+        b'b' => hearing::block(out, part, n),
+        _ => places::values(out, part, n),
     }
 }

@@ -6,8 +6,8 @@ use borrow.Fn.Kinds.{Dens, res_t, ended_of}
 use mathlib.Core.Path.{◌≡◌, ◌∙◌, sym}
 use Rattle.excitation.proofs.Register.silent.Kinds as silent
 use Rattle.excitation.proofs.Register.silent.Reads as silent-reads
-use Rattle.excitation.proofs.Outcome.refusal_number.Kinds as refusal-number
-use Rattle.excitation.proofs.Outcome.refusal_number.Reads as refusal-number-reads
+use Rattle.excitation.proofs.Refusal.refusal_number.Kinds as refusal-number
+use Rattle.excitation.proofs.Refusal.refusal_number.Reads as refusal-number-reads
 
 pub silent_determined : (κs : Lfts 0) (a : Dens κs silent.ps) (r₁ r₂ : (res_t silent.r κs).Denot)
     (x₁ x₂ : AtExit (ended_of 0 silent.ps silent.r) κs)

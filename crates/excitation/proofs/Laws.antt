@@ -8,6 +8,7 @@ use native.Mathlib.Nat.{mod-lt}
 use lib.IntN.{ℤ, pos, negsuc, nat_abs}
 use lib.ListN.{length, get_or}
 use Rattle.laws.proofs.Tabulate.{get_d_tabulate}
+use Rattle.std.specs.Prelude.{Ok, Err}
 use Rattle.gains.specs.Tables.{cg_table, pg_table}
 use Rattle.codebook.specs.Code.{code_of}
 use Rattle.mixing.specs.Mixing.{element_of}
@@ -15,13 +16,10 @@ use Rattle.mixing.specs.Promised.{ElementIs, CodeAlone}
 use Rattle.mixing.proofs.Laws.{element_is, element_within, code_alone}
 use Rattle.excitation.specs.Register.{silent_register, element_at}
 use Rattle.excitation.specs.Excitation.{adaptive_of, mixed_of, mixed_by, excitation_of}
-use Rattle.excitation.specs.Outcome.{outcome_of, refusal_of, register_moved, excited_of, excitation_left}
+use Rattle.excitation.specs.Outcome.{Outcome, outcome_of, register_moved, excited_of, excitation_left}
 use Rattle.excitation.specs.Promised.{Accepted, position, ElementsAre, WithinRegister, ElementsWithin}
 use Rattle.excitation.specs.Promised.{RegisterMoves, SixtyOrNone, ByIndicesAlone, SilentIsCode}
 use Rattle.excitation.specs.declared.Register.{Register}
-use Rattle.excitation.specs.declared.Excited.{Excited}
-use Rattle.excitation.specs.declared.Outcome.{Outcome}
-use Rattle.excitation.specs.declared.Outcome.TheVariants.{Written, WrongLength, TooLarge, NotListed, NotWhole}
 use Rattle.excitation.proofs.Periods.{code_at, position_is}
 use Rattle.excitation.proofs.Shifts.{length_moved, moved_element}
 use Rattle.excitation.proofs.Outcomes.{fitting, answered, stays, written_sixty}
@@ -40,11 +38,11 @@ excited_element register delay pg ci cg t h =
 module _ (register : Register) (delay pg ci cg : ℕ) (l : List ℤ) (a : Accepted delay pg ci cg l) where
   -- what is written
   left_is : excitation_left register delay pg ci cg l ≡ excitation_of register.elements delay pg ci cg
-  left_is = sym (answered register delay pg ci cg l refl a refl refl).1
+  left_is = sym (answered register delay pg ci cg l (sym a) refl refl).out_after
 
   -- and the register after
   after_is : (excited_of register delay pg ci cg (length l)).register ≡ register_moved register delay pg ci cg
-  after_is = sym (ap (λ (x : Excited). x.register) (answered register delay pg ci cg l refl a refl refl).0)
+  after_is = sym (answered register delay pg ci cg l (sym a) refl refl).register_after
 
   left_element : (t : ℕ) → t < 60
       → get_or (excitation_left register delay pg ci cg l) t (pos 0)
@@ -83,14 +81,6 @@ register_moves register delay pg ci cg l e a =
           (sym (left_is register delay pg ci cg l a)),
     )
 
--- an outcome that is not written is a refusal
-refuses : (o : Outcome) → (o ≡ Written → ⊥) → refusal_of o ≡ 0 → ⊥
-refuses Written n e = n refl
-refuses WrongLength n e = omega arith
-refuses TooLarge n e = omega arith
-refuses NotListed n e = omega arith
-refuses NotWhole n e = omega arith
-
 pub sixty_or_none : SixtyOrNone
 unfolding SixtyOrNone
 sixty_or_none register delay pg ci cg l = (sixty, none)
@@ -100,13 +90,16 @@ sixty_or_none register delay pg ci cg l = (sixty, none)
         ap length (left_is register delay pg ci cg l a) ∙ written_sixty register delay pg ci cg a
         ∙ (fitting delay pg ci cg a).sixty
 
+    stayed : (o : Outcome) → outcome_of (length l) delay pg ci cg ≡ o → (Accepted delay pg ci cg l → ⊥)
+        → (excitation_left register delay pg ci cg l ≡ l)
+        × ((excited_of register delay pg ci cg (length l)).register ≡ register)
+    stayed (Ok u) e n = absurd (n e)
+    stayed (Err r) e n = let s = stays register delay pg ci cg l (sym e) in (sym s.out_after, sym s.register_after)
+
     none : (Accepted delay pg ci cg l → ⊥)
         → (excitation_left register delay pg ci cg l ≡ l)
         × ((excited_of register delay pg ci cg (length l)).register ≡ register)
-    none n =
-        let o = outcome_of (length l) delay pg ci cg in
-        let s = stays register delay pg ci cg l o (refuses o n) refl refl in
-        (sym s.1, sym (ap (λ (x : Excited). x.register) s.0))
+    none n = stayed (outcome_of (length l) delay pg ci cg) refl n
 
 pub by_indices_alone : ByIndicesAlone
 unfolding ByIndicesAlone
@@ -136,15 +129,7 @@ pub left_length : (register : Register) (delay pg ci cg : ℕ) (l : List ℤ)
     → length (excitation_left register delay pg ci cg l) ≡ length l
 left_length register delay pg ci cg l = go (outcome_of (length l) delay pg ci cg) refl
   where
-    kept : (o : Outcome) → (refusal_of o ≡ 0 → ⊥) → outcome_of (length l) delay pg ci cg ≡ o
-        → length (excitation_left register delay pg ci cg l) ≡ length l
-    kept o n e = ap length (sym (stays register delay pg ci cg l o n refl e).1)
-
     go : (o : Outcome) → outcome_of (length l) delay pg ci cg ≡ o
         → length (excitation_left register delay pg ci cg l) ≡ length l
-    go Written e =
-        ap length (left_is register delay pg ci cg l e) ∙ written_sixty register delay pg ci cg e
-    go WrongLength e = kept WrongLength (λ z. omega arith) e
-    go TooLarge e = kept TooLarge (λ z. omega arith) e
-    go NotListed e = kept NotListed (λ z. omega arith) e
-    go NotWhole e = kept NotWhole (λ z. omega arith) e
+    go (Ok u) e = ap length (left_is register delay pg ci cg l e) ∙ written_sixty register delay pg ci cg e
+    go (Err r) e = ap length (sym (stays register delay pg ci cg l (sym e)).out_after)

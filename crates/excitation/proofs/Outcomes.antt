@@ -1,91 +1,93 @@
 -- The returns of `outcome_of` and of `excite`, and what is so where nothing is refused.
 -- Assumes nothing.
-use mathlib.Core.Path.{◌≡◌, ◌∙◌, refl, sym, ap, subst}
+use mathlib.Core.Path.{◌≡◌, ◌∙◌, refl, sym, subst}
 use mathlib.Core.Bool.{true}
 use mathlib.Core.List.{List}
 use Prim.Native.Nat.{ℕ, ◌/◌, ◌%◌, ◌<◌, ◌≤◌}
 use native.Mathlib.Omega.{arith}
-use borrow.Author.Tests.{eq-eqb, ne_eqb, le-leb, lt-leb, lt-ltb, le-ltb, eqb-true, ltb-true}
+use borrow.Author.Tests.{eq-eqb, ne_eqb, le-leb, lt-leb, lt-ltb, eqb-true, ltb-true}
 use lib.Dec.{T, eqb, leb, leb→le}
 use lib.IntN.{ℤ}
 use lib.ListN.{length}
+use Rattle.std.specs.Prelude.{Some, None, Ok, Err}
 use Rattle.laws.specs.Table.{both}
 use Rattle.laws.proofs.Table.{both_left, both_right}
 use Rattle.laws.proofs.Unless.{goes_on}
-use Rattle.delays.specs.Codes.{listed}
+use Rattle.delays.specs.Codes.{listed, rank_found}
 use Rattle.delays.specs.Table.{rank_with}
+use Rattle.delays.proofs.Pairs.{found, not_found}
 use Rattle.delays.proofs.Table.{twelfths_low, twelfths_high, twelfths_rank}
 use Rattle.excitation.specs.Excitation.{excitation_of}
-use Rattle.excitation.specs.Outcome.{indices_fit, outcome_of, refusal_of, register_moved, excited_of}
+use Rattle.excitation.specs.Outcome.{Outcome, indices_fit, outcome_of, register_moved, excited_of}
 use Rattle.excitation.specs.Outcome.{excitation_left}
 use Rattle.excitation.specs.declared.Register.{Register}
-use Rattle.excitation.specs.declared.Outcome.{Outcome}
-use Rattle.excitation.specs.declared.Outcome.TheVariants.{Written, WrongLength, TooLarge, NotListed, NotWhole}
+use Rattle.excitation.specs.declared.Refusal.{Refusal}
+use Rattle.excitation.specs.declared.Refusal.TheVariants.{WrongLength, TooLarge, NotListed, NotWhole}
 use Rattle.excitation.proofs.Mixes.{mixed_sixty}
 
 module _ (long delay pg ci cg : ℕ) where
   -- the buffer
-  pub wrong_length : (long ≡ 60 → ⊥) → WrongLength ≡ outcome_of long delay pg ci cg
+  pub wrong_length : (long ≡ 60 → ⊥) → Err WrongLength ≡ outcome_of long delay pg ci cg
   unfolding outcome_of
   wrong_length w = rw (ne_eqb long 60 w) refl
 
   module _ (e : long ≡ 60) where
     -- an index
-    pub pg_large : 31 < pg → TooLarge ≡ outcome_of long delay pg ci cg
+    pub pg_large : 31 < pg → Err TooLarge ≡ outcome_of long delay pg ci cg
     unfolding outcome_of
     pg_large h = rw (eq-eqb long 60 e, lt-leb pg 31 h) refl
 
-    pub ci_large : pg ≤ 31 → 511 < ci → TooLarge ≡ outcome_of long delay pg ci cg
+    pub ci_large : pg ≤ 31 → 511 < ci → Err TooLarge ≡ outcome_of long delay pg ci cg
     unfolding outcome_of
     ci_large p h = rw (eq-eqb long 60 e, le-leb pg 31 p, lt-leb ci 511 h) refl
 
-    pub cg_large : pg ≤ 31 → ci ≤ 511 → 31 < cg → TooLarge ≡ outcome_of long delay pg ci cg
+    pub cg_large : pg ≤ 31 → ci ≤ 511 → 31 < cg → Err TooLarge ≡ outcome_of long delay pg ci cg
     unfolding outcome_of
     cg_large p i h = rw (eq-eqb long 60 e, le-leb pg 31 p, le-leb ci 511 i, lt-leb cg 31 h) refl
 
     module _ (p : pg ≤ 31) (i : ci ≤ 511) (q : cg ≤ 31) where
       -- the delay
-      pub not_listed : {rank : ℕ} → rank ≡ rank_with delay → 255 < rank → NotListed ≡ outcome_of long delay pg ci cg
+      pub not_listed : None ≡ rank_found (rank_with delay) → Err NotListed ≡ outcome_of long delay pg ci cg
       unfolding outcome_of
-      not_listed r h =
+      not_listed r =
           rw (
             eq-eqb long 60 e,
             le-leb pg 31 p,
             le-leb ci 511 i,
             le-leb cg 31 q,
-            le-ltb (rank_with delay) 256 (omega (arith, r)),
+            not_found (rank_with delay) r,
           ) refl
 
-      pub not_whole : {rank : ℕ} → rank ≡ rank_with delay → rank ≤ 255 → (delay % 12 ≡ 0 → ⊥)
-          → NotWhole ≡ outcome_of long delay pg ci cg
+      pub not_whole : {rank : ℕ} → Some rank ≡ rank_found (rank_with delay) → (delay % 12 ≡ 0 → ⊥)
+          → Err NotWhole ≡ outcome_of long delay pg ci cg
       unfolding outcome_of
-      not_whole r h w =
+      not_whole r w =
           rw (
             eq-eqb long 60 e,
             le-leb pg 31 p,
             le-leb ci 511 i,
             le-leb cg 31 q,
-            lt-ltb (rank_with delay) 256 (omega (arith, r)),
+            lt-ltb (rank_with delay) 256 (found _ _ r).1,
             ne_eqb (delay % 12) 0 w,
           ) refl
 
       -- nothing is refused
-      pub all_fits : {rank : ℕ} → rank ≡ rank_with delay → rank ≤ 255 → delay % 12 ≡ 0
-          → Written ≡ outcome_of long delay pg ci cg
+      pub all_fits : {rank : ℕ} → Some rank ≡ rank_found (rank_with delay) → delay % 12 ≡ 0
+          → Ok tt ≡ outcome_of long delay pg ci cg
       unfolding outcome_of
-      all_fits r h w =
+      all_fits r w =
           rw (
             eq-eqb long 60 e,
             le-leb pg 31 p,
             le-leb ci 511 i,
             le-leb cg 31 q,
-            lt-ltb (rank_with delay) 256 (omega (arith, r)),
+            lt-ltb (rank_with delay) 256 (found _ _ r).1,
             eq-eqb (delay % 12) 0 w,
           ) refl
 
 -- a refusal is not the answer that the excitation is written
-refused : (o : Outcome) → (refusal_of o ≡ 0 → ⊥) → o ≡ Written → ⊥
-refused o n e = n (ap refusal_of e)
+refused : (e : Refusal) → ◌≡◌ {A = Outcome} (Err e) (Ok tt) → ⊥
+refused e w = let z : ◌≡◌ {A = ℕ} 0 1 = cc in omega arith
 
 -- what is so where nothing is refused: the delay is a whole number of samples between 20 and 147
 pub record Fitting (long delay pg ci cg : ℕ) : Type 0 where
@@ -98,13 +100,13 @@ pub record Fitting (long delay pg ci cg : ℕ) : Type 0 where
   pub from_twenty : 20 ≤ delay / 12
   pub upto_last : delay / 12 ≤ 147
 
-pub fitting : (delay pg ci cg : ℕ) {long : ℕ} → outcome_of long delay pg ci cg ≡ Written → Fitting long delay pg ci cg
+pub fitting : (delay pg ci cg : ℕ) {long : ℕ} → outcome_of long delay pg ci cg ≡ Ok tt → Fitting long delay pg ci cg
 unfolding outcome_of
 fitting delay pg ci cg {long} e =
-    let one = goes_on (eqb long 60) WrongLength _ (refused WrongLength (λ z. omega arith)) e in
-    let two = goes_on (indices_fit pg ci cg) TooLarge _ (refused TooLarge (λ z. omega arith)) one.1 in
-    let three = goes_on (listed delay) NotListed _ (refused NotListed (λ z. omega arith)) two.1 in
-    let four = goes_on (eqb (delay % 12) 0) NotWhole _ (refused NotWhole (λ z. omega arith)) three.1 in
+    let one = goes_on (eqb long 60) (Err WrongLength) _ (refused WrongLength) e in
+    let two = goes_on (indices_fit pg ci cg) (Err TooLarge) _ (refused TooLarge) one.1 in
+    let three = goes_on (listed delay) (Err NotListed) _ (refused NotListed) two.1 in
+    let four = goes_on (eqb (delay % 12) 0) (Err NotWhole) _ (refused NotWhole) three.1 in
     let fits : T (indices_fit pg ci cg) = subst T (sym two.0) tt in
     let others = both_right (leb pg 31) (both (leb ci 511) (leb cg 31)) fits in
     let rank : rank_with delay < 256 = ltb-true (rank_with delay) 256 three.0 in
@@ -122,34 +124,29 @@ fitting delay pg ci cg {long} e =
 
 -- the returns of `excite`
 module _ (register : Register) (delay pg ci cg : ℕ) (l : List ℤ) where
-  -- an outcome with a register, and what is left in the buffer
-  abbrev pub Answers : Outcome → Register → List ℤ → Type 0
-  Answers o r left =
-      (record { outcome = o; register = r } ≡ excited_of register delay pg ci cg (length l))
-      × (left ≡ excitation_left register delay pg ci cg l)
+  -- an outcome, a register, and what is left in the buffer
+  pub record Answers (o : Outcome) (r : Register) (left : List ℤ) : Type 0 where
+    pub value : o ≡ (excited_of register delay pg ci cg (length l)).outcome
+    pub register_after : r ≡ (excited_of register delay pg ci cg (length l)).register
+    pub out_after : left ≡ excitation_left register delay pg ci cg l
 
   -- the excitation is written
-  pub answered : {told : Outcome} → told ≡ outcome_of (length l) delay pg ci cg → told ≡ Written
+  pub answered : Ok tt ≡ outcome_of (length l) delay pg ci cg
       → {r : Register} {left : List ℤ} → r ≡ register_moved register delay pg ci cg
       → left ≡ excitation_of register.elements delay pg ci cg
-      → Answers Written r left
+      → Answers (Ok tt) r left
   unfolding excited_of excitation_left
-  answered told is p q =
-      let e = sym told ∙ is in
-      (rw e (ap (λ (x : Register). record { outcome = Written; register = x }) p), rw e q)
+  answered told p q =
+      let e = sym told in record { value = told; register_after = rw e p; out_after = rw e q }
 
   -- a refusal leaves register and buffer
-  pub stays : (o : Outcome) → (refusal_of o ≡ 0 → ⊥) → {told : Outcome} → told ≡ outcome_of (length l) delay pg ci cg
-      → told ≡ o → Answers o register l
+  pub stays : {e : Refusal} → Err e ≡ outcome_of (length l) delay pg ci cg → Answers (Err e) register l
   unfolding excited_of excitation_left
-  stays Written n p q = absurd (n refl)
-  stays WrongLength n p q = let e = sym p ∙ q in (rw e refl, rw e refl)
-  stays TooLarge n p q = let e = sym p ∙ q in (rw e refl, rw e refl)
-  stays NotListed n p q = let e = sym p ∙ q in (rw e refl, rw e refl)
-  stays NotWhole n p q = let e = sym p ∙ q in (rw e refl, rw e refl)
+  stays told =
+      let e = sym told in record { value = told; register_after = rw e refl; out_after = rw e refl }
 
 -- as many elements are written as there were
-pub written_sixty : (register : Register) (delay pg ci cg : ℕ) {long : ℕ} → outcome_of long delay pg ci cg ≡ Written
+pub written_sixty : (register : Register) (delay pg ci cg : ℕ) {long : ℕ} → outcome_of long delay pg ci cg ≡ Ok tt
     → length (excitation_of register.elements delay pg ci cg) ≡ long
 unfolding excitation_of
 written_sixty register delay pg ci cg e = mixed_sixty _ _ _ _ ∙ sym (fitting delay pg ci cg e).sixty

@@ -1,14 +1,14 @@
--- The turns of `moved`: the register's last 87 elements, and then the sixty new ones.
+-- The register after: its last 87 elements, and then the sixty new ones.
 -- Assumes nothing.
-use mathlib.Core.Path.{◌≡◌, ◌∙◌, sym, ap}
-use mathlib.Core.List.{List, ◌++◌}
-use Prim.Native.Nat.{ℕ, ◌+◌, ◌-◌, ◌<◌, ◌≤◌}
+use mathlib.Core.Path.{◌≡◌, ◌∙◌, sym, ap, ap₂}
+use mathlib.Core.List.{List, [], ◌++◌}
+use Prim.Native.Nat.{ℕ, ◌+◌}
 use native.Mathlib.Omega.{arith}
+use borrow.Rule.Slice.PartMut.{put_mid, mid_of}
 use lib.IntN.{ℤ, pos}
-use lib.ListN.{length, get_or, set, length-append, length-drop, get_or-append}
+use lib.ListN.{length, get_or, take, drop, length-append, length-drop}
 use lib.Seq.{get_or-drop}
-use Rattle.laws.proofs.Filled.{Copied, copied_none, copied_more, copied_all}
-use Rattle.laws.proofs.Joined.{getD_second}
+use Rattle.std.proofs.lemmas.List.{take_all, drop_all, take-append-le, drop-append-le, append-nil}
 use Rattle.excitation.specs.Register.{moved_by}
 
 -- the register after has as many elements as before
@@ -25,51 +25,16 @@ moved_element before new i =
     let e : 60 + i ≡ i + 60 = omega arith in
     get_or-drop 60 (before ++ new) i (pos 0) ∙ ap (λ (k : ℕ). get_or (before ++ new) k (pos 0)) e
 
--- the first i elements are those of the register after; it is so with new elements from the place of the first on
-pub record Moved (before new : List ℤ) (i : ℕ) (elements : List ℤ) : Type 0 where
-  pub copied : Copied (pos 0) (moved_by before new) i elements
-  pub old : length before ≡ 147
-  pub long : length new ≡ 60
-
--- before the first turn none is
-pub moved_none : (before new : List ℤ) → length before ≡ 147 → length new ≡ 60 → Moved before new 0 before
-moved_none before new old long =
-    record {
-      copied = copied_none (pos 0) (moved_by before new) before (old ∙ sym (length_moved before new old long));
-      old = old;
-      long = long;
-    }
-
-module _ {before new : List ℤ} {i : ℕ} {elements : List ℤ} (p : Moved before new i elements) where
-  -- what stands at place i of the register after is laid there
-  moved_more : (v : ℤ) → i < 147 → v ≡ get_or (before ++ new) (i + 60) (pos 0)
-      → Moved before new (i + 1) (set elements i v)
-  moved_more v h e =
-      record {
-        copied =
-            copied_more (pos 0) (moved_by before new) v p.copied
-            (omega (arith, length_moved before new p.old p.long))
-            (e ∙ sym (moved_element before new i));
-        old = p.old;
-        long = p.long;
-      }
-
-  -- one of the old
-  pub moved_old : (v : ℤ) → i < 87 → v ≡ get_or before (i + 60) (pos 0) → Moved before new (i + 1) (set elements i v)
-  moved_old v h e =
-      moved_more v (omega arith)
-      (e ∙ sym (get_or-append before new (pos 0) (i + 60) (omega (arith, p.old))))
-
-  -- one of the new
-  pub moved_new : (v : ℤ) → 87 ≤ i → i < 147 → v ≡ get_or new (i - 87) (pos 0)
-      → Moved before new (i + 1) (set elements i v)
-  moved_new v h l e =
-      let place : i + 60 - length before ≡ i - 87 = omega (arith, p.old) in
-      moved_more v l
-      (e ∙ sym (getD_second before new (i + 60) (pos 0) (omega (arith, p.old))
-      ∙ ap (λ (k : ℕ). get_or new k (pos 0)) place))
-
-  -- after the last turn all are
-  pub moved_all : 147 ≤ i → elements ≡ moved_by before new
-  moved_all h =
-      copied_all (pos 0) (moved_by before new) p.copied (omega (arith, length_moved before new p.old p.long))
+-- the last 87 elements of the register and the new ones, laid one after the other into a list of 147
+pub moved_is : (before new : List ℤ) {old : List ℤ} (z : List ℤ) → length before ≡ 147 → length new ≡ 60 → length z ≡ 60
+    → old ≡ mid_of 60 87 before → put_mid 87 60 (old ++ z) new ≡ moved_by before new
+unfolding moved_by
+moved_is before new {old} z b n k e =
+    let last : old ≡ drop 60 before = e ∙ take_all 87 (drop 60 before) (omega (arith, length-drop 60 before, b)) in
+    let long : length old ≡ 87 = ap length last ∙ omega (arith, length-drop 60 before, b) in
+    let front : take 87 (old ++ z) ≡ old =
+    take-append-le 87 old z (omega arith) ∙ take_all 87 old (omega arith) in
+    let back : drop 60 (drop 87 (old ++ z)) ≡ [] =
+    drop_all 60 (drop 87 (old ++ z)) (omega (arith, length-drop 87 (old ++ z), length-append old z)) in
+    ap₂ (λ (x y : List ℤ). x ++ (new ++ y)) (front ∙ last) back ∙ ap (λ (y : List ℤ). drop 60 before ++ y) (append-nil new)
+    ∙ sym (drop-append-le 60 before new (omega arith))

@@ -1,5 +1,5 @@
 -- What holds of the excitation of every subframe (document 02, K6). When it is refused is said in `promises`.
-use Rattle.std.specs.Prelude.{◌≡◌, List, ◌++◌, ℕ, ◌+◌, ◌/◌, ◌%◌, ◌<◌, ◌≤◌, ℤ, pos, negsuc, neg_ℤ, ◌+ℤ◌, ◌*ℤ◌, nat_abs, length, get_or}
+use Rattle.std.specs.Prelude.{◌≡◌, List, ◌++◌, ℕ, ◌+◌, ◌/◌, ◌%◌, ◌<◌, ◌≤◌, ℤ, pos, negsuc, neg_ℤ, ◌+ℤ◌, ◌*ℤ◌, nat_abs, length, get_or, Ok}
 use Rattle.gains.specs.Tables.{cg_table, pg_table}
 use Rattle.codebook.specs.Code.{code_of}
 use Rattle.mixing.specs.Mixing.{sum_of, held_of}
@@ -7,11 +7,10 @@ use Rattle.mixing.specs.Promised.{Nearest}
 use Rattle.excitation.specs.Register.{silent_register, element_at}
 use Rattle.excitation.specs.Outcome.{outcome_of, excited_of, excitation_left}
 use Rattle.excitation.specs.declared.Register.{Register}
-use Rattle.excitation.specs.declared.Outcome.TheVariants.{Written}
 
 -- a call that is not refused
 abbrev pub Accepted : ℕ → ℕ → ℕ → ℕ → List ℤ → Type 0
-Accepted delay pg ci cg l = outcome_of (length l) delay pg ci cg ≡ Written
+Accepted delay pg ci cg l = outcome_of (length l) delay pg ci cg ≡ Ok tt
 
 -- "-d + (t mod d)": the position that element t of the adaptive code is read at, for a delay in twelfths
 abbrev pub position : ℕ → ℕ → ℤ

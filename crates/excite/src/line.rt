@@ -1,45 +1,51 @@
-// A line, laid into a buffer and written. Each answers whether it was written.
+// A line, laid into a buffer and written.
 use blocks::Cause;
-use input::STDOUT;
 use lines::{Form, Line};
+use std::io::{self, Write};
 
 // The line of a refused recording.
-pub fn refused(cause: Cause) -> bool {
-    let mut out = [0u8; 64];
-    let end = lines::put(&mut out, 0, Line::Refused(cause));
-    written(&out, end)
+pub fn refused(out: &mut impl Write, cause: Cause) -> io::Result<()> {
+    let mut bytes = [0; 64];
+    let end = lines::put(&mut bytes, 0, Line::Refused(cause));
+    out.write_all(&bytes[..end])
 }
 
 // `K refused N`.
-pub fn frame_refused(k: u32, number: u32) -> bool {
-    formed(Form {
-        bytes: *b"\x00 refused \x01\n                ",
-        size: 12,
-        numbers: [k as u64, number as u64, 0, 0, 0, 0, 0, 0],
-    })
+pub fn frame_refused(out: &mut impl Write, k: u32, number: u32) -> io::Result<()> {
+    formed(
+        out,
+        Form {
+            bytes: *b"\x00 refused \x01\n                ",
+            size: 12,
+            numbers: [k as u64, number as u64, 0, 0, 0, 0, 0, 0],
+        },
+    )
 }
 
 // `K S refused N`.
-pub fn subframe_refused(k: u32, n: u32, number: u32) -> bool {
-    formed(Form {
-        bytes: *b"\x00 \x01 refused \x02\n              ",
-        size: 14,
-        numbers: [k as u64, n as u64, number as u64, 0, 0, 0, 0, 0],
-    })
+pub fn subframe_refused(out: &mut impl Write, k: u32, n: u32, number: u32) -> io::Result<()> {
+    formed(
+        out,
+        Form {
+            bytes: *b"\x00 \x01 refused \x02\n              ",
+            size: 14,
+            numbers: [k as u64, n as u64, number as u64, 0, 0, 0, 0, 0],
+        },
+    )
 }
 
 // A line that is a form.
-fn formed(form: Form) -> bool {
-    let mut out = [0u8; 64];
-    let end = lines::put_form(&mut out, 0, form);
-    written(&out, end)
+fn formed(out: &mut impl Write, form: Form) -> io::Result<()> {
+    let mut bytes = [0; 64];
+    let end = lines::put_form(&mut bytes, 0, form);
+    out.write_all(&bytes[..end])
 }
 
 // `K S e1 .. e60`.
-pub fn subframe(k: u32, n: u32, elements: &[i32]) -> bool {
-    let mut out = [0u8; 1024];
+pub fn subframe(out: &mut impl Write, k: u32, n: u32, elements: &[i32]) -> io::Result<()> {
+    let mut bytes = [0; 1024];
     let named = lines::put_form(
-        &mut out,
+        &mut bytes,
         0,
         Form {
             bytes: *b"\x00 \x01                         ",
@@ -47,13 +53,7 @@ pub fn subframe(k: u32, n: u32, elements: &[i32]) -> bool {
             numbers: [k as u64, n as u64, 0, 0, 0, 0, 0, 0],
         },
     );
-    let told = decimals::put_list(&mut out, named, elements);
-    let end = text::put_byte(&mut out, told, b'\n');
-    written(&out, end)
-}
-
-// Writes the first bytes of a buffer.
-fn written(out: &[u8], end: usize) -> bool {
-    let kept = text::least(end, out.len());
-    io::write_all(STDOUT, &out[..kept])
+    let told = decimals::put_list(&mut bytes, named, elements);
+    let end = text::put_byte(&mut bytes, told, b'\n');
+    out.write_all(&bytes[..end])
 }

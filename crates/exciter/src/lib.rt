@@ -6,67 +6,54 @@ ghost use Rattle.std.specs.Prelude.{◌≡◌, ◌≤◌, pos, length, get_or};
 ghost use Rattle.excitation.specs.Register.{holding, moved_by};
 ghost use Rattle.excitation.specs.Excitation.{adaptive_of, mixed_of, mixed_by, excitation_of};
 ghost use Rattle.excitation.specs.Outcome.{outcome_of, register_moved, excited_of, excitation_left};
-ghost use Rattle.excitation.specs.declared.Outcome.TheVariants.{Written};
 
-use excitation::{Excited, Outcome, Register};
+use excitation::{Refusal, Register};
 
-// Writes the excitation of a subframe into a buffer of sixty, by a delay in twelfths and the indices PG, CI and CG.
-pub fn excite(register: Register, delay: u32, pg: u16, ci: u16, cg: u16, out: &mut [i32]) -> Excited
-    ensures value { result ≡ excited_of register delay pg ci cg (length out.old) }
-    ensures out_after { out.new ≡ excitation_left register delay pg ci cg out.old }
+// Writes the excitation of a subframe into a buffer of sixty, by a delay in twelfths and the indices PG, CI and CG, and moves the
+// register by it. A refusal leaves both.
+pub fn excite(
+    register: &mut Register,
+    delay: u32,
+    pg: u16,
+    ci: u16,
+    cg: u16,
+    out: &mut [i32],
+) -> Result<(), Refusal>
+    ensures value { result ≡ (excited_of register.old delay pg ci cg (length out.old)).outcome }
+    ensures register_after { register.new ≡ (excited_of register.old delay pg ci cg (length out.old)).register }
+    ensures out_after { out.new ≡ excitation_left register.old delay pg ci cg out.old }
 {
-    match outcome_of(out.len(), delay, pg, ci, cg) {
-        Outcome::Written => Excited {
-            outcome: Outcome::Written,
-            register: moved_by(register, delay, pg, ci, cg, out),
-        },
-        Outcome::WrongLength => Excited {
-            outcome: Outcome::WrongLength,
-            register,
-        },
-        Outcome::TooLarge => Excited {
-            outcome: Outcome::TooLarge,
-            register,
-        },
-        Outcome::NotListed => Excited {
-            outcome: Outcome::NotListed,
-            register,
-        },
-        Outcome::NotWhole => Excited {
-            outcome: Outcome::NotWhole,
-            register,
-        },
-    }
+    outcome_of(out.len(), delay, pg, ci, cg)?;
+    *register = moved_by(*register, delay, pg, ci, cg, out);
+    Ok(())
 }
 
-// What it comes to with a buffer of so many elements: the buffer first, then the indices, then the delay.
-fn outcome_of(long: usize, delay: u32, pg: u16, ci: u16, cg: u16) -> Outcome
+// Why there is none with a buffer of so many elements: the buffer first, then the indices, then the delay.
+fn outcome_of(long: usize, delay: u32, pg: u16, ci: u16, cg: u16) -> Result<(), Refusal>
     ensures { result ≡ outcome_of long delay pg ci cg }
 {
     if long != 60 {
-        return Outcome::WrongLength;
+        return Err(Refusal::WrongLength);
     }
     if 31 < pg {
-        return Outcome::TooLarge;
+        return Err(Refusal::TooLarge);
     }
     if 511 < ci {
-        return Outcome::TooLarge;
+        return Err(Refusal::TooLarge);
     }
     if 31 < cg {
-        return Outcome::TooLarge;
+        return Err(Refusal::TooLarge);
     }
-    if 255 < delays::rank_with(delay) {
-        return Outcome::NotListed;
-    }
+    delays::rank_with(delay).ok_or(Refusal::NotListed)?;
     if delay % 12 != 0 {
-        return Outcome::NotWhole;
+        return Err(Refusal::NotWhole);
     }
-    Outcome::Written
+    Ok(())
 }
 
 // Writes the excitation, by what is not refused, and answers the register moved by it.
 fn moved_by(register: Register, delay: u32, pg: u16, ci: u16, cg: u16, out: &mut [i32]) -> Register
-    requires { outcome_of (length out.old) delay pg ci cg ≡ Written }
+    requires { outcome_of (length out.old) delay pg ci cg ≡ Ok tt }
     ensures value { result ≡ register_moved register delay pg ci cg }
     ensures out_after { out.new ≡ excitation_of register.elements delay pg ci cg }
 {
@@ -82,15 +69,12 @@ fn adaptive(register: &[i32; 147], whole: usize, out: &mut [i32])
     ensures { out.new ≡ adaptive_of register.now whole }
 {
     let first = 147 - whole;
-    let fresh = if whole < 60 { whole } else { 60 };
-    let mut t = 0;
-    while t < fresh {
+    let fresh = whole.min(60);
+    for t in 0..fresh {
         out[t] = register[first + t];
-        t += 1;
     }
-    while t < 60 {
+    for t in fresh..60 {
         out[t] = out[t - whole];
-        t += 1;
     }
 }
 
@@ -102,7 +86,7 @@ fn mix_codes(pg: u16, ci: u16, cg: u16, out: &mut [i32])
     let stochastic = gain_in(&gains::CG, cg);
     let past = gain_in(&gains::PG, pg);
     let mut code = [0i8; 60];
-    codebook::write_code(ci, &mut code);
+    let _ = codebook::write_code(ci, &mut code);
     mix(stochastic, &code, past, out);
 }
 
@@ -111,8 +95,7 @@ fn gain_in(table: &[i16; 32], index: u16) -> i32
     requires { index ≤ 31 }
     ensures { result ≡ get_or table.now index (pos 0) }
 {
-    let entry = table[index as usize];
-    entry as i32
+    i32::from(table[usize::from(index)])
 }
 
 // Mixes a ternary code into an adaptive one, element by element.
@@ -120,10 +103,8 @@ fn mix(cg: i32, code: &[i8], pg: i32, out: &mut [i32])
     requires { (length code.now ≡ 60) × (length out.old ≡ 60) }
     ensures { out.new ≡ mixed_of cg code.now pg out.old }
 {
-    let mut k = 0;
-    while k < 60 {
-        out[k] = mixing::element(cg, code[k], pg, out[k]);
-        k += 1;
+    for (k, ternary) in code.iter().enumerate() {
+        out[k] = mixing::element(cg, *ternary, pg, out[k]);
     }
 }
 
@@ -133,15 +114,8 @@ fn moved(before: &[i32; 147], new: &[i32]) -> Register
     requires len { length new.now ≡ 60 }
     ensures { result ≡ holding (moved_by before.now new.now) }
 {
-    let mut elements = *before;
-    let mut i = 0;
-    while i < 87 {
-        elements[i] = before[i + 60];
-        i += 1;
-    }
-    while i < 147 {
-        elements[i] = new[i - 87];
-        i += 1;
-    }
+    let mut elements = [0i32; 147];
+    elements[..87].copy_from_slice(&before[60..]);
+    elements[87..].copy_from_slice(new);
     Register { elements }
 }

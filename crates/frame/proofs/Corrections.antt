@@ -4,22 +4,19 @@
 use mathlib.Core.Path.{◌≡◌, ◌∙◌, sym, refl, ap}
 use mathlib.Core.Bool.{Bool, true, false}
 use mathlib.Core.List.{List}
-use Prim.Native.Nat.{ℕ, ◌+◌, ◌-◌, ◌*◌, ◌/◌, ◌%◌, ◌^◌, ◌<◌, ◌≤◌}
+use Prim.Native.Nat.{ℕ, ◌+◌, ◌-◌, ◌/◌, ◌%◌, ◌<◌, ◌≤◌}
 use native.Mathlib.Omega.{arith}
 use native.Mathlib.Decide.{ℕ_discrete}
-use native.Mathlib.Nat.{one-mul}
 use borrow.Author.Tests.{eq-eqb, ne_eqb, lt-ltb, le-ltb}
-use lib.Bits.{bit_xor}
 use lib.Dec.{T, eqb, eqb→eq}
-use lib.ListN.{get_or, set}
-use lib.Pow.{shl_exact}
+use lib.ListN.{get_or}
 use Rattle.laws.specs.Lowest.{lowest_from}
 use Rattle.laws.specs.Table.{all_below}
 use Rattle.laws.proofs.Lowest.{NoneUpTo, none_found, none_at_all}
 use Rattle.laws.proofs.Table.{below}
 use Rattle.frame.specs.Parity.{guarded_name}
 use Rattle.frame.specs.Correction.{correction_of, names, data_number, number_of_case}
-use Rattle.frame.specs.Steps.{guarded_entries, inverting}
+use Rattle.frame.specs.Steps.{guarded_entries}
 use Rattle.frame.specs.declared.Correction.{Correction}
 use Rattle.frame.specs.declared.Correction.TheVariants.{Clean, Parity, Data}
 use Rattle.frame.proofs.Places.{next}
@@ -176,22 +173,3 @@ module _ (f i : ℕ) where
     pub data_none : {n : ℕ} → NoneUpTo here n → 15 ≤ n → 0 ≡ data_number f i
     unfolding data_number
     data_none p h = rw (ne_eqb f 0 e) (none_at_all here 15 p h)
-
--- ---- what a correction changes
-
--- one bit shifted to its place
-shifted_one : (k : ℕ) → k < 16 → 1 * 2 ^ k % 65536 ≡ 2 ^ k
-shifted_one k h = shl_exact 1 k 16 (omega arith) (omega arith) ∙ one-mul (2 ^ k)
-
-module _ (v : List ℕ) (f i : ℕ) where
-  -- a field that the list has not
-  pub no_such_field : 28 < f → v ≡ inverting v f i
-  no_such_field h = rw (le-ltb f 29 (omega arith))
-
-  -- a bit that no field has
-  pub no_such_bit : f ≤ 28 → 15 < i → v ≡ inverting v f i
-  no_such_bit h l = rw (lt-ltb f 29 (omega arith), le-ltb i 16 (omega arith))
-
-  -- any other is inverted
-  pub inverted_bit : f ≤ 28 → i ≤ 15 → set v f (bit_xor (get_or v f 0) (1 * 2 ^ i % 65536)) ≡ inverting v f i
-  inverted_bit h l = rw (lt-ltb f 29 (omega arith), lt-ltb i 16 (omega arith), shifted_one i (omega arith))

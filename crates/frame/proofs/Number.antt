@@ -3,7 +3,7 @@
 -- Assumes nothing.
 use mathlib.Core.Path.{◌≡◌, ◌∙◌, sym, refl, ap, subst}
 use mathlib.Core.List.{List}
-use Prim.Native.Nat.{ℕ, zero, suc, ◌+◌, ◌-◌, ◌*◌, ◌/◌, ◌%◌, ◌^◌, ◌<◌, ◌≤◌}
+use Prim.Native.Nat.{ℕ, zero, suc, ◌+◌, ◌-◌, ◌*◌, ◌/◌, ◌%◌, ◌<◌, ◌≤◌}
 use native.Mathlib.Omega.{arith}
 use lib.Dec.{ltb, ltb→lt}
 use lib.Bits.{bit_xor, xor_lt}
@@ -100,7 +100,3 @@ module _ (t : List ℕ) (same : t ≡ guarded_entries) (n : ℕ) where
   -- and is in one of the 29
   pub next_field : n < 15 → get_or t n 0 / 16 < 29
   next_field h = rw same (guarded_field n h)
-
--- the next number, taken once or not at all, is small
-pub taken_room : (n x : ℕ) → n < 15 → (n + 1) * (x % 2) < 2 ^ 64
-taken_room n x h = let s = taken_small (n + 1) (x % 2) (omega arith) (omega arith) in omega (arith, s)

@@ -12,7 +12,7 @@ use Rattle.laws.specs.Tabulate.{tabulate_from}
 use Rattle.record.specs.Fields.{too_large_field}
 use Rattle.record.specs.declared.Record.{Record}
 use Rattle.record.proofs.Laws.{none_too_large, all_fit_none_too_large}
-use Rattle.lsp.specs.Table.{hertz_of}
+use Rattle.lsp.specs.Table.{hertz_of, hz_in}
 use Rattle.lsp.proofs.Laws.{mark_most}
 use Rattle.frame.specs.Frame.{bit_at, record_of}
 use Rattle.frame.specs.Parity.{number, mended}
@@ -41,7 +41,7 @@ pub record InRange (r : Reading) : Type 0 where
 -- an order mark is at most 9
 record_mark_most : (r : Record) → record_mark r ≤ 9
 unfolding record_mark
-record_mark_most r = mark_most (hertz_of r.lsp).hz
+record_mark_most r = mark_most (hz_in (hertz_of r.lsp))
 
 -- so does a record of nothing but 0
 no_record_fits : too_large_field no_record ≡ 0

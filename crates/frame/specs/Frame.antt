@@ -1,5 +1,5 @@
 -- Eighteen bytes and the 144 bits in them; reading and writing a frame.
-use Rattle.std.specs.Prelude.{cond, List, ℕ, ◌+◌, ◌-◌, ◌*◌, ◌/◌, ◌%◌, ◌^◌, eqb, get_or}
+use Rattle.std.specs.Prelude.{cond, List, ℕ, ◌-◌, ◌*◌, ◌/◌, ◌%◌, ◌^◌, eqb, get_or}
 use Rattle.laws.specs.Lowest.{lowest}
 use Rattle.laws.specs.Table.{both}
 use Rattle.laws.specs.Total.{total, bit, from_bits}

@@ -1,19 +1,13 @@
-// A frame: the table of 3.8.2, and what reading and writing answer.
+// A frame: the table of 3.8.2, what is read in a frame, and why a record is not written.
 // `reader` and `packer` follow the table one place at a time. Between the bytes and the record the indices stand in one list by
 // field number, the four parity bits HP-0 to HP-3 under 0.
 #![tactic(auto)]
 
 ghost use Rattle.std.specs.Prelude.{◌≡◌};
+ghost use Rattle.frame.specs.Answers.{not_read};
 ghost use Rattle.frame.specs.Steps.{entries};
 
 use record::Record;
-
-// Whether a frame was read. (Refusal 1: it was not eighteen bytes.)
-#[derive(Clone, Copy)]
-pub enum Verdict {
-    Read,
-    WrongLength,
-}
 
 // What correction did in a frame: nothing; a parity bit was hit, with its correction number, and no index changed; a data bit was
 // inverted, with its field and its bit there. `parity` has the number of each case.
@@ -24,19 +18,36 @@ pub enum Correction {
     Data(usize, usize),
 }
 
-// What is read in a frame: the record after correction, what correction did, and the order mark; all 0 and clean where it was refused.
+// What is read in a frame: the record after correction, what correction did, and the order mark.
 #[derive(Clone, Copy)]
 pub struct Reading {
-    pub verdict: Verdict,
     pub indices: Record,
     pub correction: Correction,
     pub mark: usize,
 }
 
-// What a record to write gets: the frame, or the refusal with what it tells.
-#[derive(Clone, Copy)]
-pub enum Written {
-    Frame,
+impl Reading {
+    // What there is where no frame was read: all 0, and clean.
+    pub fn nothing() -> Reading
+        ensures { result ≡ not_read }
+    {
+        Reading {
+            indices: Record {
+                lsp: [0; 10],
+                subframes: [0; 16],
+                sp: 0,
+                sy: 0,
+            },
+            correction: Correction::Clean,
+            mark: 0,
+        }
+    }
+}
+
+// Why a record is not written, with what the refusal tells: the lent buffer is not eighteen bytes; the field whose index is too large;
+// the number after which the parameters fall; SP is set.
+#[derive(Clone, Copy, Debug, PartialEq, Eq)]
+pub enum Refusal {
     WrongLength,
     TooLarge(usize),
     Falling(usize),

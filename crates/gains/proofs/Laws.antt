@@ -14,7 +14,8 @@ use Rattle.laws.proofs.Table.{at}
 use Rattle.laws.proofs.Every.{every_of}
 use Rattle.laws.proofs.Signed.{same, same→eq}
 use borrow.Author.Tests.{le-leb, lt-leb}
-use Rattle.gains.specs.declared.Gain.TheVariants.{Value, TooLarge}
+use Rattle.std.specs.Prelude.{Ok, Err}
+use Rattle.gains.specs.declared.Refusal.TheVariants.{TooLarge}
 use Rattle.gains.specs.Gains.{gain_of}
 use Rattle.gains.specs.Tables.{cg_table, pg_table}
 use Rattle.gains.specs.Nearest.{apart, apart_at, nearest_of, Nearest}
@@ -101,17 +102,17 @@ module _ (x : ℤ) where
 
 module _ (table : List ℤ) (i : ℕ) where
   -- an index to 31 has the entry there for its gain
-  pub gain_value : i ≤ 31 → gain_of table i ≡ Value (get_or table i (pos 0))
+  pub gain_value : i ≤ 31 → gain_of table i ≡ Ok (get_or table i (pos 0))
   unfolding gain_of
   gain_value h = rw (le-leb i 31 h)
 
   -- any other is too large
-  pub gain_too_large : 31 < i → gain_of table i ≡ TooLarge
+  pub gain_too_large : 31 < i → gain_of table i ≡ Err TooLarge
   unfolding gain_of
   gain_too_large h = rw (lt-leb i 31 h)
 
   -- a gain that is answered is the entry of an index to 31
-  pub gain_given : (v : ℤ) → gain_of table i ≡ Value v → (i ≤ 31) × (v ≡ get_or table i (pos 0))
+  pub gain_given : (v : ℤ) → gain_of table i ≡ Ok v → (i ≤ 31) × (v ≡ get_or table i (pos 0))
   gain_given v e = go (dec_le i 31)
     where
       go : Dec (i ≤ 31) → (i ≤ 31) × (v ≡ get_or table i (pos 0))

@@ -1,4 +1,2 @@
 pub mod Laws
-pub mod Apart
-pub mod Down
 pub mod Determined

@@ -23,36 +23,33 @@ pub const PG: [i16; 32] = [
     1062, 1117, 1193, 1289, 1394, 1540, 1765, 1991,
 ];
 
-// The gain of an index, or that the index is too large for its field.
-#[derive(Clone, Copy)]
-pub enum Gain {
-    Value(i32),
+// Why an index has no gain: it is too large for its field.
+#[derive(Clone, Copy, Debug, PartialEq, Eq)]
+pub enum Refusal {
     TooLarge,
 }
 
 // The stochastic code gain of an index.
-pub fn cg(index: u16) -> Gain
+pub fn cg(index: u16) -> Result<i32, Refusal>
     ensures { result ≡ cg_of index }
 {
     gain_at(&CG, index)
 }
 
 // The adaptive code gain of an index, in thousandths.
-pub fn pg(index: u16) -> Gain
+pub fn pg(index: u16) -> Result<i32, Refusal>
     ensures { result ≡ pg_of index }
 {
     gain_at(&PG, index)
 }
 
 // The gain of an index in a table lent, for whoever looks up several.
-pub fn gain_at(table: &[i16; 32], index: u16) -> Gain
+pub fn gain_at(table: &[i16; 32], index: u16) -> Result<i32, Refusal>
     ensures { result ≡ gain_of table.now index }
 {
     if 31 < index {
-        return Gain::TooLarge;
+        return Err(Refusal::TooLarge);
     }
-    let i = index as usize;
-    let entry = table[i];
-    let gain = entry as i32;
-    Gain::Value(gain)
+    let entry = table[usize::from(index)];
+    Ok(i32::from(entry))
 }

@@ -7,7 +7,7 @@ ghost use Rattle.frame.specs.Answers.{refusal_of};
 ghost use Rattle.verdicts.specs.Verdicts.{refused};
 ghost use Rattle.gateway.specs.Results.{kind_of, read_result, record_left, write_result, frame_left_by};
 
-use frame::{Correction, Verdict, Written};
+use frame::{Correction, Refusal};
 
 // Reads a frame into a record: 16 times the order mark plus the correction number, and 256 more for a parity hit, 512 for a data hit;
 // or a refusal.
@@ -15,20 +15,16 @@ pub fn oatlantern_read_frame(frame: &[u8], out: &mut [u8]) -> i32
     ensures value { result ≡ read_result frame.now (length out.old) }
     ensures out_after { out.new ≡ record_left frame.now out.old }
 {
-    let reading = reader::read(frame);
-    let verdict = reading.verdict;
-    match verdict {
-        Verdict::Read => {
-            let correction = reading.correction;
-            let number = parity::number_for(correction);
-            let kind = kind_of(correction);
-            if pairs::put(reading.indices, out) {
-                return (16 * reading.mark + number + kind) as i32;
-            }
-            -1
-        }
-        Verdict::WrongLength => -1,
+    let Some(reading) = reader::read(frame) else {
+        return -1;
+    };
+    let correction = reading.correction;
+    let number = parity::number_for(correction);
+    let kind = kind_of(correction);
+    if pairs::put(reading.indices, out) {
+        return (16 * reading.mark + number + kind) as i32;
     }
+    -1
 }
 
 // What the kind of a correction adds to the reader's result.
@@ -47,22 +43,21 @@ pub fn oatlantern_write_frame(record: &[u8], frame: &mut [u8]) -> i32
     ensures value { result ≡ write_result «record».now (length frame.old) }
     ensures frame_after { frame.new ≡ frame_left_by «record».now frame.old }
 {
-    let taken = pairs::take(record);
-    if taken.whole {
-        return result(writer::write(taken.indices, frame));
+    match pairs::take(record) {
+        Some(indices) => result(writer::write(indices, frame)),
+        None => -1,
     }
-    -1
 }
 
 // The writer's answer as a number.
-fn result(written: Written) -> i32
+fn result(written: Result<(), Refusal>) -> i32
     ensures { result ≡ refused (refusal_of written) }
 {
     match written {
-        Written::Frame => 0,
-        Written::WrongLength => -1,
-        Written::TooLarge(_) => -2,
-        Written::Falling(_) => -3,
-        Written::Expansion => -6,
+        Ok(()) => 0,
+        Err(Refusal::WrongLength) => -1,
+        Err(Refusal::TooLarge(_)) => -2,
+        Err(Refusal::Falling(_)) => -3,
+        Err(Refusal::Expansion) => -6,
     }
 }

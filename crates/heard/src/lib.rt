@@ -6,10 +6,8 @@ ghost use Rattle.std.specs.Prelude.{◌≡◌, ◌<◌};
 ghost use Rattle.gains.specs.Gains.{gain_of};
 ghost use Rattle.values.specs.Values.{value_in, indices_at, gains_of, delays_of, heard_state, previous_of, heard_values};
 
-use delays::Meant;
-use gains::Gain;
 use record::Record;
-use values::{LastSy, Outcome, State, Values};
+use values::{Outcome, State, Values};
 
 // The values of a record as if it were not refused. Its LSPs are used as they are, in order or not.
 pub fn heard_values(r: Record, before: State) -> Values
@@ -18,13 +16,10 @@ pub fn heard_values(r: Record, before: State) -> Values
     let cg = gains_in(&gains::CG, in_subframes(r, CG));
     let pg = gains_in(&gains::PG, in_subframes(r, PG));
     let delays = delays_of(r);
-    let indices = r.lsp;
-    let hertz = hertz::in_hertz(indices);
-    let present = hertz.hz;
-    let used = present;
+    let used = hertz::in_hertz(r.lsp).unwrap_or([0; 10]);
     let previous = previous_of(before, used);
     let averages = averages::averages(previous, used);
-    let mark = lsp::order_mark(present);
+    let mark = lsp::order_mark(used);
     let state = state_after(used, r.sy);
     Values {
         outcome: Outcome::Heard,
@@ -57,10 +52,7 @@ fn in_subframes(r: Record, place: usize) -> [u16; 4]
 fn delays_of(r: Record) -> [u16; 4]
     ensures { result ≡ delays_of r }
 {
-    match meanings::meaning(in_subframes(r, PD)) {
-        Meant::Delays(a, b, c, d) => [a, b, c, d],
-        Meant::TooLarge(_) => [0u16; 4],
-    }
+    meanings::meaning(in_subframes(r, PD)).unwrap_or([0; 4])
 }
 
 // The gains of four indices in a table.
@@ -78,21 +70,14 @@ fn gains_in(table: &[i16; 32], indices: [u16; 4]) -> [i32; 4]
 fn gain_in(table: &[i16; 32], index: u16) -> i32
     ensures { result ≡ value_in (gain_of table.now index) }
 {
-    match gains::gain_at(table, index) {
-        Gain::Value(gain) => gain,
-        Gain::TooLarge => 0,
-    }
+    gains::gain_at(table, index).unwrap_or(0)
 }
 
 // The previous frame's LSPs in Hz, or those of this frame where there was no previous one.
 fn previous_of(before: State, used: [u16; 10]) -> [u16; 10]
     ensures { result ≡ previous_of before used }
 {
-    let kept = before.hz;
-    if before.begun {
-        return kept;
-    }
-    used
+    before.hz.unwrap_or(used)
 }
 
 // The state after a frame of which these LSPs were used, with this SY.
@@ -100,8 +85,7 @@ fn state_after(hz: [u16; 10], sy: u16) -> State
     ensures { result ≡ heard_state hz sy }
 {
     State {
-        begun: true,
-        hz,
-        last: LastSy::Was(sy),
+        hz: Some(hz),
+        last: Some(sy),
     }
 }

@@ -1,3 +1,2 @@
 pub mod Determined
 pub mod Left
-pub mod States

@@ -2,11 +2,11 @@
 // numbers: three of sync, whether a frame was heard, whether there was a last SY, and that SY; and the ten LSPs in Hz.
 #![tactic(auto)]
 
-ghost use Rattle.std.specs.Prelude.{◌≡◌, cond, [], ◌∷◌, ◌≤◌, pos};
+ghost use Rattle.std.specs.Prelude.{◌≡◌, [], ◌∷◌, ◌≤◌, pos};
 ghost use Rattle.blocks.specs.Frames.{span_of};
-ghost use Rattle.hearer.specs.Hearing.{last_in, state_in, sync_of, values_in, refusal_in, hear_result, if_heard, if_kept};
+ghost use Rattle.hearer.specs.Hearing.{if_there, state_in, sync_of, hz_of, values_in, refusal_in, hear_result, if_heard, if_kept};
 
-use values::{LastSy, State, Values};
+use values::{State, Values};
 
 // Hears a record after a state: its order mark, with the values and the state after it; or minus a refusal, which leaves all but the
 // state after 6.
@@ -21,17 +21,15 @@ pub fn oatlantern_hear_record(
 ) -> i32
     ensures value { result ≡ hear_result (refusal_in «record».now sync.old hz.old) (values_in «record».now sync.old hz.old) }
     ensures sync_after { sync.new ≡ if_kept (refusal_in «record».now sync.old hz.old) (sync_of (values_in «record».now sync.old hz.old).state) sync.old }
-    ensures hz_after { hz.new ≡ if_kept (refusal_in «record».now sync.old hz.old) (values_in «record».now sync.old hz.old).state.hz hz.old }
+    ensures hz_after { hz.new ≡ if_kept (refusal_in «record».now sync.old hz.old) (hz_of (values_in «record».now sync.old hz.old).state hz.old) hz.old }
     ensures cg_after { cg.new ≡ if_heard (refusal_in «record».now sync.old hz.old) (values_in «record».now sync.old hz.old).cg cg.old }
     ensures pg_after { pg.new ≡ if_heard (refusal_in «record».now sync.old hz.old) (values_in «record».now sync.old hz.old).pg pg.old }
     ensures delays_after { delays.new ≡ if_heard (refusal_in «record».now sync.old hz.old) (values_in «record».now sync.old hz.old).delays delays.old }
     ensures averages_after { averages.new ≡ if_heard (refusal_in «record».now sync.old hz.old) (values_in «record».now sync.old hz.old).averages averages.old }
 {
-    let taken = pairs::take(record);
-    if !taken.whole {
+    let Some(indices) = pairs::take(record) else {
         return -1;
-    }
-    let indices = taken.indices;
+    };
     let before = state_in(sync, hz);
     let values = decoder::values_of(indices, before);
     let outcome = values.outcome;
@@ -51,29 +49,24 @@ fn state_in(sync: &[u16; 3], hz: &[u16; 10]) -> State
     ensures { result ≡ state_in sync.now hz.now }
 {
     State {
-        begun: sync[0] != 0,
-        hz: *hz,
-        last: last_in(sync[1], sync[2]),
+        hz: if_there(sync[0], *hz),
+        last: if_there(sync[1], sync[2]),
     }
 }
 
-// The last SY out of two numbers.
-fn last_in(there: u16, sy: u16) -> LastSy
-    ensures { result ≡ last_in there sy }
+// What is there, by a number that says whether it is.
+fn if_there<A: Copy>(there: u16, x: A) -> Option<A>
+    ensures { result ≡ if_there there x }
 {
-    if there == 0 {
-        return LastSy::Never;
-    }
-    LastSy::Was(sy)
+    if there == 0 { None } else { Some(x) }
 }
 
 // A state into its numbers.
 fn keep(state: State, sync: &mut [u16; 3], hz: &mut [u16; 10])
     ensures sync_after { sync.new ≡ sync_of state }
-    ensures hz_after { hz.new ≡ state.hz }
+    ensures hz_after { hz.new ≡ hz_of state hz.old }
 {
-    let after = state.hz;
-    *hz = after;
+    *hz = state.hz.unwrap_or(*hz);
     *sync = sync_of(state);
 }
 
@@ -81,22 +74,11 @@ fn keep(state: State, sync: &mut [u16; 3], hz: &mut [u16; 10])
 fn sync_of(state: State) -> [u16; 3]
     ensures { result ≡ sync_of state }
 {
-    let begun = flag(state.begun);
-    let last = state.last;
-    match last {
-        LastSy::Never => [begun, 0, 0],
-        LastSy::Was(sy) => [begun, 1, sy],
+    let begun = u16::from(state.hz.is_some());
+    match state.last {
+        None => [begun, 0, 0],
+        Some(sy) => [begun, 1, sy],
     }
-}
-
-// Yes as 1, no as 0.
-fn flag(yes: bool) -> u16
-    ensures { result ≡ cond yes 1 0 }
-{
-    if yes {
-        return 1;
-    }
-    0
 }
 
 // The values of a record that is heard into the arrays, and its order mark.

@@ -4,7 +4,7 @@
 
 ghost use Rattle.std.specs.Prelude.{◌≡◌, [], ◌∷◌};
 ghost use Rattle.blocks.specs.Frames.{span_of};
-ghost use Rattle.hearer.specs.Hearing.{sync_of, values_in, refusal_in, hear_result, if_heard, if_kept};
+ghost use Rattle.hearer.specs.Hearing.{sync_of, hz_of, values_in, refusal_in, hear_result, if_heard, if_kept};
 
 // Hears a record after a state: its order mark, with the values and the state after it; or minus a refusal, which leaves all but the
 // state after 6.
@@ -20,7 +20,7 @@ pub extern "C" fn oatlantern_hear_record(
 ) -> i32
     ensures value { result ≡ hear_result (refusal_in «record».now sync.old hz.old) (values_in «record».now sync.old hz.old) }
     ensures sync_after { sync.new ≡ if_kept (refusal_in «record».now sync.old hz.old) (sync_of (values_in «record».now sync.old hz.old).state) sync.old }
-    ensures hz_after { hz.new ≡ if_kept (refusal_in «record».now sync.old hz.old) (values_in «record».now sync.old hz.old).state.hz hz.old }
+    ensures hz_after { hz.new ≡ if_kept (refusal_in «record».now sync.old hz.old) (hz_of (values_in «record».now sync.old hz.old).state hz.old) hz.old }
     ensures cg_after { cg.new ≡ if_heard (refusal_in «record».now sync.old hz.old) (values_in «record».now sync.old hz.old).cg cg.old }
     ensures pg_after { pg.new ≡ if_heard (refusal_in «record».now sync.old hz.old) (values_in «record».now sync.old hz.old).pg pg.old }
     ensures delays_after { delays.new ≡ if_heard (refusal_in «record».now sync.old hz.old) (values_in «record».now sync.old hz.old).delays delays.old }

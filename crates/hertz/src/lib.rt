@@ -6,7 +6,7 @@ ghost use Rattle.std.specs.Prelude.{◌≡◌, T};
 ghost use Rattle.laws.specs.Tabulate.{tabulate};
 ghost use Rattle.lsp.specs.Table.{as_printed, too_large_field, hz_at, hertz_of};
 
-use lsp::{Hertz, Verdict};
+use lsp::Refusal;
 
 // The table of 3.7.2 in Hz as printed: a row for each index from 0, LSP 1 to 10 across, 0 where no entry is printed.
 #[rattlefmt::skip]
@@ -32,37 +32,17 @@ const HZ: [u16; 160] = [
 // How many bits the index of each LSP has, LSP 1 first.
 const BITS: [u16; 10] = [3, 4, 4, 4, 4, 3, 3, 3, 3, 3];
 
-// The ten indices in Hz, or the refusal.
-pub fn in_hertz(indices: [u16; 10]) -> Hertz
+// The ten indices in Hz, or the lowest LSP whose index does not fit its bits.
+pub fn in_hertz(indices: [u16; 10]) -> Result<[u16; 10], Refusal>
     ensures { result ≡ hertz_of indices }
 {
-    let large = too_large(indices);
-    if large != 0 {
-        return Hertz {
-            verdict: Verdict::TooLarge(large),
-            hz: [0u16; 10],
-        };
-    }
-    let hz = looked_up(&HZ, indices);
-    Hertz {
-        verdict: Verdict::Within,
-        hz,
-    }
-}
-
-// The lowest LSP whose index does not fit its bits, or 0.
-fn too_large(indices: [u16; 10]) -> usize
-    ensures { result ≡ too_large_field indices }
-{
     let bits = BITS;
-    let mut i = 0;
-    while i < 10 {
+    for i in 0..10 {
         if indices[i] >> bits[i] != 0 {
-            return i + 1;
+            return Err(Refusal::TooLarge(i + 1));
         }
-        i += 1;
     }
-    0
+    Ok(looked_up(&HZ, indices))
 }
 
 // The ten indices in Hz, from the table lent, where each fits its bits.
@@ -72,11 +52,9 @@ fn looked_up(table: &[u16; 160], indices: [u16; 10]) -> [u16; 10]
     ensures { result ≡ tabulate (hz_at indices) 10 }
 {
     let mut hz = [0u16; 10];
-    let mut i = 0;
-    while i < 10 {
-        let row = 10 * indices[i] as usize;
+    for i in 0..10 {
+        let row = 10 * usize::from(indices[i]);
         hz[i] = table[row + i];
-        i += 1;
     }
     hz
 }

@@ -9,20 +9,20 @@ use borrow.Author.Tests.{leb-true}
 use lib.Dec.{eqb, leb, ltb}
 use lib.ListN.{length, drop, length-append, length-drop}
 use lib.Seq.{take-take, length-take-le}
+use Rattle.std.specs.Prelude.{Result, Ok, Err}
+use Rattle.std.specs.declared.ops.ControlFlow.TheVariants.{Continue, Break}
 use Rattle.laws.proofs.Chosen.{chosen}
 use Rattle.blocks.specs.Blocks.{size_at, kind_at, right_size, block_at, part}
 use Rattle.blocks.specs.Walk.{longest, after_head, past_voice_of, met, step_of, walked_of}
 use Rattle.blocks.specs.Frames.{voice_size, voices_from, eighteens, frames_in}
 use Rattle.blocks.specs.Made.{block, voice_blocks}
 use Rattle.blocks.specs.declared.Block.{Block}
-use Rattle.blocks.specs.declared.Block.TheVariants.{Head, Voice, End, Broken}
+use Rattle.blocks.specs.declared.Block.TheVariants.{Head, Voice, End}
 use Rattle.blocks.specs.declared.Cause.{Cause}
 use Rattle.blocks.specs.declared.Cause.TheVariants.{TooLong, HeaderCut, PastEnd, WrongSize, UnknownKind}
 use Rattle.blocks.specs.declared.Cause.TheVariants.{OutOfTurn, EndMissing, WrongCount, Extra}
-use Rattle.blocks.specs.declared.Ending.{Ending}
-use Rattle.blocks.specs.declared.Ending.TheVariants.{Sound, Refused}
-use Rattle.blocks.specs.declared.Moved.{Moved}
-use Rattle.blocks.specs.declared.Moved.TheVariants.{On, Done}
+use Rattle.blocks.specs.Walk.{Ending}
+use Rattle.blocks.specs.Walk.{Moved}
 use Rattle.blocks.specs.declared.Walk.{Walk}
 use Rattle.blocks.proofs.Made.{payload_sized}
 use Rattle.blocks.proofs.Passed.{frames_in_none, frames_in_more, blocks_none, blocks_more, Behind, Way, before_head}
@@ -86,16 +86,16 @@ module _ (s : List ℕ) (at : ℕ) where
 -- ---- the block at which a walk ends
 
 -- behind the head that is no voice block
-stop_no_voice : (s : List ℕ) (w : Walk) (e : Ending) → w.headed ≡ true → step_of s w ≡ Done e → 0 ≡ voice_size s w.at
+stop_no_voice : (s : List ℕ) (w : Walk) (e : Ending) → w.headed ≡ true → step_of s w ≡ Break e → 0 ≡ voice_size s w.at
 stop_no_voice s w e t o = go (block_at s w.at) refl
   where
-    go : (b : Block) → block_at s w.at ≡ b → 0 ≡ voice_size s w.at
-    go (Head h) i = head_no_voice s w.at h i
-    go (Voice size) i =
-        let m : On (past_voice_of w size) ≡ Done e = voice_passed w size t ∙ step_met s w (Voice size) i ∙ o in
+    go : (b : Result Block Cause) → block_at s w.at ≡ b → 0 ≡ voice_size s w.at
+    go (Ok (Head h)) i = head_no_voice s w.at h i
+    go (Ok (Voice size)) i =
+        let m : Continue (past_voice_of w size) ≡ Break e = voice_passed w size t ∙ step_met s w (Ok (Voice size)) i ∙ o in
         absurd (let z : ◌≡◌ {A = ℕ} 0 1 = cc in omega arith)
-    go (End n) i = end_no_voice s w.at n i
-    go (Broken cause) i = broken_no_voice s w.at cause i
+    go (Ok (End n)) i = end_no_voice s w.at n i
+    go (Err cause) i = broken_no_voice s w.at cause i
 
 -- of a refusal for running past the end: the block that is told is the one at the place, and its header is whole
 abbrev Past : List ℕ → ℕ → Cause → Type 0
@@ -110,11 +110,11 @@ Past s at (WrongCount p) = Unit
 Past s at (Extra p) = Unit
 
 -- so of what stands at a place
-abbrev PastBlock : List ℕ → ℕ → Block → Type 0
-PastBlock s at (Head heading) = Unit
-PastBlock s at (Voice size) = Unit
-PastBlock s at (End told) = Unit
-PastBlock s at (Broken cause) = Past s at cause
+abbrev PastBlock : List ℕ → ℕ → Result Block Cause → Type 0
+PastBlock s at (Ok (Head heading)) = Unit
+PastBlock s at (Ok (Voice size)) = Unit
+PastBlock s at (Ok (End told)) = Unit
+PastBlock s at (Err cause) = Past s at cause
 
 block_past : (s : List ℕ) (at : ℕ) → PastBlock s at (block_at s at)
 unfolding block_at
@@ -130,29 +130,29 @@ block_past s at =
 
 -- and of how a step ends
 abbrev PastMoved : List ℕ → ℕ → Moved → Type 0
-PastMoved s at (On next) = Unit
-PastMoved s at (Done Sound) = Unit
-PastMoved s at (Done (Refused cause)) = Past s at cause
+PastMoved s at (Continue next) = Unit
+PastMoved s at (Break (Ok _)) = Unit
+PastMoved s at (Break (Err cause)) = Past s at cause
 
 step_past : (s : List ℕ) (w : Walk) → PastMoved s w.at (step_of s w)
 unfolding step_of
 step_past s w = go (block_at s w.at) (block_past s w.at)
   where
-    go : (b : Block) → PastBlock s w.at b → PastMoved s w.at (met s w b)
-    go (Head h) p = chosen (PastMoved s w.at) (not w.headed) (λ t. tt) (λ t. tt)
-    go (Voice size) p = chosen (PastMoved s w.at) w.headed (λ t. tt) (λ t. tt)
-    go (End told) p =
-        chosen (λ (x : Ending). PastMoved s w.at (Done x)) (ltb 0 w.frames) (λ a.
-        chosen (λ (x : Ending). PastMoved s w.at (Done x)) (eqb told w.frames) (λ b.
-        chosen (λ (x : Ending). PastMoved s w.at (Done x)) (eqb (length s) (w.at + 6 + 4)) (λ c. tt) (λ c. tt))
+    go : (b : Result Block Cause) → PastBlock s w.at b → PastMoved s w.at (met s w b)
+    go (Ok (Head h)) p = chosen (PastMoved s w.at) (not w.headed) (λ t. tt) (λ t. tt)
+    go (Ok (Voice size)) p = chosen (PastMoved s w.at) w.headed (λ t. tt) (λ t. tt)
+    go (Ok (End told)) p =
+        chosen (λ (x : Ending). PastMoved s w.at (Break x)) (ltb 0 w.frames) (λ a.
+        chosen (λ (x : Ending). PastMoved s w.at (Break x)) (eqb told w.frames) (λ b.
+        chosen (λ (x : Ending). PastMoved s w.at (Break x)) (eqb (length s) (w.at + 6 + 4)) (λ c. tt) (λ c. tt))
         (λ b. tt)) (λ a. tt)
-    go (Broken cause) p = p
+    go (Err cause) p = p
 
 -- a recording refused for running past the end is so at the block at which its walk stands
-pub past_end_at : (s : List ℕ) (p : ℕ) → length s ≤ longest → (walked_of s).ending ≡ Refused (PastEnd p)
+pub past_end_at : (s : List ℕ) (p : ℕ) → length s ≤ longest → (walked_of s).ending ≡ Err (PastEnd p)
     → (p ≡ (walked_of s).walk.at) × ((walked_of s).walk.at + 6 ≤ length s)
 past_end_at s p l e =
-    subst (PastMoved s (walked_of s).walk.at) (walked_stops s l ∙ ap Done e) (step_past s (walked_of s).walk)
+    subst (PastMoved s (walked_of s).walk.at) (walked_stops s l ∙ ap Break e) (step_past s (walked_of s).walk)
 
 -- the walk stands within the bytes
 walk_within : (s : List ℕ) → (walked_of s).walk.at ≤ length s
@@ -178,25 +178,25 @@ left_within s l = go (walked_of s).ending refl
     some_left at (suc n) h m = omega arith
 
     go : (e : Ending) → (walked_of s).ending ≡ e → reach_of (walked_of s).walk.at (left_at s e) ≤ length s
-    go Sound e = none_left
-    go (Refused TooLong) e = none_left
-    go (Refused (HeaderCut p)) e = none_left
-    go (Refused (PastEnd p)) e =
+    go (Ok _) e = none_left
+    go (Err TooLong) e = none_left
+    go (Err (HeaderCut p)) e = none_left
+    go (Err (PastEnd p)) e =
         let h = past_end_at s p l e in
         some_left (walked_of s).walk.at (frames_left s p) h.1
         (subst (λ (q : ℕ). frames_left s p ≤ (length s - (q + 6)) / 18) h.0 (few_left s p))
-    go (Refused (WrongSize p size)) e = none_left
-    go (Refused (UnknownKind p)) e = none_left
-    go (Refused (OutOfTurn p)) e = none_left
-    go (Refused (EndMissing p)) e = none_left
-    go (Refused (WrongCount p)) e = none_left
-    go (Refused (Extra p)) e = none_left
+    go (Err (WrongSize p size)) e = none_left
+    go (Err (UnknownKind p)) e = none_left
+    go (Err (OutOfTurn p)) e = none_left
+    go (Err (EndMissing p)) e = none_left
+    go (Err (WrongCount p)) e = none_left
+    go (Err (Extra p)) e = none_left
 
 -- ---- all that is kept
 
 -- behind the head: the payloads, their count, and where their blocks end
 pub record Kept (s : List ℕ) (w : Walk) (left : ℕ) : Type 0 where
-  pub head : block_at s 0 ≡ Head w.heading
+  pub head : block_at s 0 ≡ Ok (Head w.heading)
   pub voices : Sized (voices_from s (after_head 0))
   pub sized : Sized (kept_of s)
   pub whole : length (frames_in (voices_from s (after_head 0))) ≡ w.frames

@@ -8,6 +8,8 @@ use native.Mathlib.Omega.{arith}
 use borrow.Author.Tests.{eq-eqb, ne_eqb, le-leb, lt-leb, leb-true, ltb-true, eqb-true}
 use lib.Dec.{eqb, leb, ltb}
 use lib.ListN.{length}
+use Rattle.std.specs.Prelude.{Result, Ok, Err}
+use Rattle.kept.specs.declared.Unsalvaged.{Unsalvaged}
 use Rattle.laws.specs.Unless.{unless}
 use Rattle.laws.proofs.Chosen.{chosen}
 use Rattle.blocks.specs.Walk.{longest, after_head, walked_of}
@@ -18,8 +20,6 @@ use Rattle.kept.specs.Keeping.{left_at, frames_at, kept_of, first_frames, frames
 use Rattle.kept.specs.Planning.{is_sound, keep_of, plan_of}
 use Rattle.kept.specs.Steps.{reach_of, fewer_of, frames_by, keep_by, plan_by}
 use Rattle.kept.specs.declared.Keep.{Keep}
-use Rattle.kept.specs.declared.Plan.{Plan}
-use Rattle.kept.specs.declared.Plan.TheVariants.{Written, Nothing}
 use Rattle.kept.specs.declared.Unsalvaged.TheVariants.{TooLong, WrongBuffer, NoFrame}
 use Rattle.kept.proofs.First.{first_count, first_join}
 use Rattle.kept.proofs.Keeps.{at_first, left_within, Kept, kept_is}
@@ -91,26 +91,26 @@ module _ (s : List ℕ) (short : length s ≤ longest) (t : Kept s (walked_of s)
 
 module _ (s : List ℕ) (room : ℕ) where
   -- too long a recording
-  pub plan_long : longest < length s → Nothing TooLong ≡ plan_of s room
+  pub plan_long : longest < length s → Err TooLong ≡ plan_of s room
   unfolding plan_of
   plan_long l = rw (lt-leb (length s) longest l)
 
   -- another buffer
-  pub plan_buffer : length s ≤ longest → (room ≡ longest → ⊥) → Nothing WrongBuffer ≡ plan_of s room
+  pub plan_buffer : length s ≤ longest → (room ≡ longest → ⊥) → Err WrongBuffer ≡ plan_of s room
   unfolding plan_of
   plan_buffer l n = rw (le-leb (length s) longest l, ne_eqb room longest n)
 
   module _ (l : length s ≤ longest) (n : room ≡ longest) where
     -- past a head: what the walk has passed is what can be kept
     headed : (walked_of s).walk.headed ≡ true
-        → unless (ltb 0 ((walked_of s).walk.frames + left_at s (walked_of s).ending)) (Nothing NoFrame)
-        (Written (keep_by (walked_of s).walk (left_at s (walked_of s).ending) (is_sound (walked_of s).ending)))
-        ≡ unless (ltb 0 (length (frames_in (kept_of s)))) (Nothing NoFrame) (Written (keep_of s))
+        → unless (ltb 0 ((walked_of s).walk.frames + left_at s (walked_of s).ending)) (Err NoFrame)
+        (Ok (keep_by (walked_of s).walk (left_at s (walked_of s).ending) (is_sound (walked_of s).ending)))
+        ≡ unless (ltb 0 (length (frames_in (kept_of s)))) (Err NoFrame) (Ok (keep_of s))
     unfolding keep_of
     headed h =
         let t = kept_is s l h in
         let e = sym (kept_by s l t) in
-        ap₂ (λ (b : Bool) (k : Keep). unless b (Nothing NoFrame) (Written k)) (ap (ltb 0) (sym t.count))
+        ap₂ (λ (b : Bool) (k : Keep). unless b (Err NoFrame) (Ok k)) (ap (ltb 0) (sym t.count))
         (λ i. record {
           heading = (walked_of s).walk.heading;
           frames = e i;
@@ -147,13 +147,13 @@ pub record Planned (s : List ℕ) (room : ℕ) (k : Keep) : Type 0 where
   pub is : k ≡ keep_of s
 
 -- so it is where something is planned
-pub plan_written : (s : List ℕ) (room : ℕ) (k : Keep) → plan_of s room ≡ Written k → Planned s room k
+pub plan_written : (s : List ℕ) (room : ℕ) (k : Keep) → plan_of s room ≡ Ok k → Planned s room k
 unfolding plan_of
 plan_written s room k e = subst Says e says
   where
-    Says : Plan → Type 0
-    Says (Nothing why) = Unit
-    Says (Written k) = Planned s room k
+    Says : Result Keep Unsalvaged → Type 0
+    Says (Err why) = Unit
+    Says (Ok k) = Planned s room k
 
     says : Says (plan_of s room)
     says =

@@ -2,45 +2,48 @@
 -- Assumes nothing.
 use mathlib.Core.Path.{◌≡◌, ◌∙◌, sym, refl, ap}
 use mathlib.Core.Bool.{Bool, true, false, not}
-use mathlib.Core.List.{List}
+use mathlib.Core.List.{List, [], ◌∷◌}
 use Prim.Native.Nat.{ℕ, zero, suc, ◌+◌, ◌-◌, ◌*◌, ◌/◌, ◌<◌, ◌≤◌}
 use native.Mathlib.Omega.{arith}
 use borrow.Author.Tests.{eq-eqb, ne_eqb, le-leb, lt-leb, le-ltb, lt-ltb, not-true, not-false}
 use lib.ListN.{length, get_or}
+use Rattle.std.specs.Prelude.{Ok, Err}
+use Rattle.std.specs.Int.{w16, from_le_bytes}
+use Rattle.std.specs.Result.{is_ok}
 use Rattle.laws.specs.Bytes.{pair_at}
 use Rattle.blocks.specs.Blocks.{kind_at}
-use Rattle.blocks.specs.Walk.{longest}
+use Rattle.blocks.specs.Walk.{longest, Ending}
 use Rattle.kept.specs.Keeping.{frames_left}
+use Rattle.kept.specs.Planning.{is_sound}
 use Rattle.kept.specs.Steps.{reach_of, fewer_of, keep_by, plan_by}
 use Rattle.blocks.specs.declared.Walk.{Walk}
 use Rattle.kept.specs.declared.Keep.{Keep}
-use Rattle.kept.specs.declared.Plan.TheVariants.{Written, Nothing}
 use Rattle.kept.specs.declared.Unsalvaged.TheVariants.{NoHead, NoFrame}
 
--- the returns of `left_in`: a block of another kind, by one byte of its kind or by the other, and a voice block
-module _ (s : List ℕ) (at : ℕ) where
-  kind_bytes : kind_at s at ≡ get_or s (at + 4) 0 + 256 * get_or s (at + 5) 0
-  unfolding pair_at
-  kind_bytes =
-      let e : at + 4 + 1 ≡ at + 5 = omega arith in
-      ap (λ (i : ℕ). get_or s (at + 4) 0 + 256 * get_or s i 0) e
+-- the returns of `left_in`: a block of another kind, and a voice block
+module _ (s : List ℕ) (at kind : ℕ) (read : kind ≡ from_le_bytes w16 (get_or s (at + 4) 0 ∷ get_or s (at + 5) 0 ∷ []))
+  where
+    kind_read : kind_at s at ≡ kind
+    unfolding pair_at
+    kind_read =
+        let e : at + 4 + 1 ≡ at + 5 = omega arith in
+        let f = ap (λ (i : ℕ). get_or s i 0) e in
+        omega (arith, f, read)
 
-  other_kind : (kind_at s at ≡ 2 → ⊥) → 0 ≡ frames_left s at
-  unfolding frames_left
-  other_kind n = rw (ne_eqb (kind_at s at) 2 n)
+    pub other_kind : (kind ≡ 2 → ⊥) → 0 ≡ frames_left s at
+    unfolding frames_left
+    other_kind n = rw (ne_eqb (kind_at s at) 2 (λ e. n (sym kind_read ∙ e)))
 
-  pub low_other : (get_or s (at + 4) 0 ≡ 2 → ⊥) → 0 ≡ frames_left s at
-  low_other n = other_kind (λ e. n (omega (arith, e, kind_bytes)))
+    pub voice_left : kind ≡ 2 → (length s - at - 6) / 18 ≡ frames_left s at
+    unfolding frames_left
+    voice_left k =
+        let e : length s - at - 6 ≡ length s - (at + 6) = omega arith in
+        rw (eq-eqb (kind_at s at) 2 (kind_read ∙ k)) (ap (λ (n : ℕ). n / 18) e)
 
-  pub high_other : (get_or s (at + 5) 0 ≡ 0 → ⊥) → 0 ≡ frames_left s at
-  high_other n = other_kind (λ e. n (omega (arith, e, kind_bytes)))
-
-  pub voice_left : get_or s (at + 4) 0 ≡ 2 → get_or s (at + 5) 0 ≡ 0 → (length s - at - 6) / 18 ≡ frames_left s at
-  unfolding frames_left
-  voice_left a b =
-      let k : kind_at s at ≡ 2 = kind_bytes ∙ omega (arith, a, b) in
-      let e : length s - at - 6 ≡ length s - (at + 6) = omega arith in
-      rw (eq-eqb (kind_at s at) 2 k) (ap (λ (n : ℕ). n / 18) e)
+-- how a walk ended, as `planned` asks it
+pub sound_ok : (ending : Ending) → is_ok ending ≡ is_sound ending
+sound_ok (Ok _) = refl
+sound_ok (Err cause) = refl
 
 -- the returns of `reach`
 pub reach_none : (at left : ℕ) → left ≡ 0 → at ≡ reach_of at left
@@ -73,12 +76,12 @@ keep_made w left sound r f o =
 
 -- the returns of `plan_by`
 module _ (w : Walk) (left : ℕ) (sound : Bool) where
-  pub plan_no_head : not w.headed ≡ true → Nothing NoHead ≡ plan_by w left sound
+  pub plan_no_head : not w.headed ≡ true → Err NoHead ≡ plan_by w left sound
   plan_no_head t = rw (not-true w.headed t)
 
-  pub plan_no_frame : not w.headed ≡ false → w.frames + left ≡ 0 → Nothing NoFrame ≡ plan_by w left sound
+  pub plan_no_frame : not w.headed ≡ false → w.frames + left ≡ 0 → Err NoFrame ≡ plan_by w left sound
   plan_no_frame t z = rw (not-false w.headed t, le-ltb 0 (w.frames + left) (omega arith))
 
   pub plan_keep : not w.headed ≡ false → (w.frames + left ≡ 0 → ⊥) → {k : Keep} → k ≡ keep_by w left sound
-      → Written k ≡ plan_by w left sound
-  plan_keep t n e = rw (not-false w.headed t, lt-ltb 0 (w.frames + left) (omega (arith, n))) (ap Written e)
+      → Ok k ≡ plan_by w left sound
+  plan_keep t n e = rw (not-false w.headed t, lt-ltb 0 (w.frames + left) (omega (arith, n))) (ap Ok e)

@@ -1,7 +1,7 @@
 -- What is kept of a damaged recording (document 02, K2): "the head, every voice block before the first refusal and,
 -- where that refusal is a voice block running past the end, the whole frames that block still has; last frames go, as
 -- few as will do, if the result would pass 65,536 bytes, and no empty block is left."
-use Rattle.std.specs.Prelude.{cond, List, [], ◌∷◌, ◌++◌, ℕ, zero, suc, ◌+◌, ◌-◌, ◌*◌, ◌/◌, eqb, leb, length, take}
+use Rattle.std.specs.Prelude.{cond, List, [], ◌∷◌, ◌++◌, ℕ, zero, suc, ◌+◌, ◌-◌, ◌*◌, ◌/◌, eqb, leb, length, take, Ok, Err}
 use Rattle.blocks.specs.Blocks.{kind_at, part}
 use Rattle.blocks.specs.Walk.{longest, after_head, walked_of}
 use Rattle.blocks.specs.Frames.{voices_from, frames_in}
@@ -9,8 +9,7 @@ use Rattle.blocks.specs.Made.{made}
 use Rattle.blocks.specs.declared.Cause.{Cause}
 use Rattle.blocks.specs.declared.Cause.TheVariants.{TooLong, HeaderCut, PastEnd, WrongSize, UnknownKind}
 use Rattle.blocks.specs.declared.Cause.TheVariants.{OutOfTurn, EndMissing, WrongCount, Extra}
-use Rattle.blocks.specs.declared.Ending.{Ending}
-use Rattle.blocks.specs.declared.Ending.TheVariants.{Sound, Refused}
+use Rattle.blocks.specs.Walk.{Ending}
 use Rattle.blocks.specs.declared.Heading.{Heading}
 
 -- how many whole frames the block at a place, which runs past the end, still has: a voice block as many as stand after
@@ -31,8 +30,8 @@ left_by s (WrongCount p) = 0
 left_by s (Extra p) = 0
 
 abbrev pub left_at : List ℕ → Ending → ℕ
-left_at s Sound = 0
-left_at s (Refused cause) = left_by s cause
+left_at s (Ok _) = 0
+left_at s (Err cause) = left_by s cause
 
 -- n frames after the header at a place, as one payload; no empty block is left
 abbrev pub frames_at : List ℕ → ℕ → ℕ → List (List ℕ)

@@ -1,11 +1,10 @@
 -- What the steps of `planned` answer, from what a walk has passed.
-use Rattle.std.specs.Prelude.{Bool, cond, ℕ, zero, suc, ◌+◌, ◌-◌, ◌*◌, leb, ltb}
+use Rattle.std.specs.Prelude.{Bool, cond, ℕ, zero, suc, ◌+◌, ◌-◌, ◌*◌, leb, ltb, Result, Ok, Err}
+use Rattle.kept.specs.declared.Unsalvaged.{Unsalvaged}
 use Rattle.laws.specs.Unless.{unless}
 use Rattle.blocks.specs.Walk.{longest}
 use Rattle.blocks.specs.declared.Walk.{Walk}
 use Rattle.kept.specs.declared.Keep.{Keep}
-use Rattle.kept.specs.declared.Plan.{Plan}
-use Rattle.kept.specs.declared.Plan.TheVariants.{Written, Nothing}
 use Rattle.kept.specs.declared.Unsalvaged.TheVariants.{NoHead, NoFrame}
 
 -- where a block of n frames at a place ends; no block stands where there are none
@@ -31,7 +30,7 @@ keep_by w left sound =
       sound = sound;
     }
 
-abbrev pub plan_by : Walk → ℕ → Bool → Plan
+abbrev pub plan_by : Walk → ℕ → Bool → Result Keep Unsalvaged
 plan_by w left sound =
-    unless w.headed (Nothing NoHead)
-    (unless (ltb 0 (w.frames + left)) (Nothing NoFrame) (Written (keep_by w left sound)))
+    unless w.headed (Err NoHead)
+    (unless (ltb 0 (w.frames + left)) (Err NoFrame) (Ok (keep_by w left sound)))

@@ -8,7 +8,7 @@ use native.Mathlib.Decide.{ℕ_discrete}
 use lib.ListN.{length, get_or, set, length-set}
 use lib.Seq.{get_or-set_same, get_or-set_other}
 use Rattle.laws.specs.Tabulate.{tabulate}
-use Rattle.laws.proofs.Tabulate.{tabulate_is, own_entries}
+use Rattle.laws.proofs.Tabulate.{tabulate_is}
 
 -- of the n places of l, the first i hold f
 pub record Filled {A : Type 0} (d : A) (f : ℕ → A) (n i : ℕ) (l : List A) : Type 0 where
@@ -45,25 +45,6 @@ module _ {A : Type 0} (d : A) (f : ℕ → A) (n : ℕ) where
   pub filled_done : {i : ℕ} (l : List A) → n ≤ i → Filled d f n i l → l ≡ tabulate f n
   filled_done {i} l h p =
       filled_all l (record { long = p.long; upto = omega arith; here = λ k q. p.here k (omega arith) })
-
--- the loop that copies a list: the first k places hold what it holds there
-module _ {A : Type 0} (d : A) (part : List A) where
-  -- the first k places are copied
-  abbrev pub Copied : ℕ → List A → Type 0
-  Copied k out = Filled d (λ (m : ℕ). get_or part m d) (length part) k out
-
-  -- before the first turn nothing is
-  pub copied_none : (out : List A) → length out ≡ length part → Copied 0 out
-  copied_none out e = filled_none _ _ _ out e
-
-  -- storing the part's entry at place k copies one more
-  pub copied_more : {k : ℕ} {out : List A} (v : A) → Copied k out → k < length part → v ≡ get_or part k d
-      → Copied (k + 1) (set out k v)
-  copied_more {k} {out} v p h e = filled_more _ _ _ k out v p h e
-
-  -- after the last turn the two lists are one
-  pub copied_all : {k : ℕ} {out : List A} → Copied k out → length part ≤ k → out ≡ part
-  copied_all {k} {out} p h = filled_done _ _ _ out h p ∙ own_entries d part (length part) refl
 
 -- a loop that changes each element where it stands: the first k are changed, the others as they were
 pub record Changed {A : Type 0} (d : A) (g : ℕ → A → A) (o : List A) (k : ℕ) (l : List A) : Type 0 where

@@ -5,7 +5,6 @@ pub mod Filled
 pub mod Bits
 pub mod Total
 pub mod Collected
-pub mod Placed
 pub mod Every
 pub mod Signed
 pub mod Held

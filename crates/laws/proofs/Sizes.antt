@@ -48,8 +48,3 @@ fits_size w {z = negsuc n} h = record { sfits = omega (arith, h) }
 -- and the size of a number that has room is at most that
 pub size_fits : (w : Width) {z : ℤ} → SFits w z → nat_abs z ≤ 2 ^ hbits w
 size_fits w {z} f = nat_abs-le z f.sfits
-
--- -1 less a number that has room has room
-pub turned_fits : (w : Width) (n : ℕ) → n < 2 ^ hbits w → SFits w (negsuc 0 -ℤ pos n)
-turned_fits w zero h = record { sfits = h }
-turned_fits w (suc n) h = record { sfits = omega (arith, h) }

@@ -1,8 +1,7 @@
 // Codes and draws.
 use crate::{case, gain, number};
-use codebook::Written;
+use codebook::Refusal;
 use draws::Generator;
-use std::num::wrapping_add_u16;
 
 // An index and the length of a buffer that holds 1 everywhere before: the refusal and the buffer's elements as one
 // number.
@@ -24,19 +23,17 @@ fn written_in(case: &[u8], buffer: &mut [i8]) -> u64 {
         return 0;
     }
     match codebook::write_code(case::short(case, 0), &mut buffer[..long]) {
-        Written::Code => 0,
-        Written::WrongLength => 1,
-        Written::TooLarge => 2,
+        Ok(()) => 0,
+        Err(Refusal::WrongLength) => 1,
+        Err(Refusal::TooLarge) => 2,
     }
 }
 
 // 62 elements as one number.
 fn as_one(elements: [i8; 62], start: u64) -> u64 {
     let mut sum = start;
-    let mut k = 0;
-    while k < 62 {
-        sum = number::with(sum, sign(elements[k]));
-        k += 1;
+    for element in elements {
+        sum = number::with(sum, sign(element));
     }
     sum
 }
@@ -57,12 +54,10 @@ pub fn drawn(case: &[u8]) -> u64 {
     let mut generator = start(case::short(case, 0), case::short(case, 1));
     let count = case::short(case, 2);
     let mut sum = 0;
-    let mut k = 0;
-    while k < count {
+    for _ in 0..count {
         let draw = generator.draw();
-        sum = number::with(sum, gain::signed(draw.value as i32));
+        sum = number::with(sum, gain::signed(i32::from(draw.value)));
         generator = draw.generator;
-        k += 1;
     }
     sum
 }
@@ -73,7 +68,7 @@ fn start(first: u16, second: u16) -> Generator {
     let kept = fresh.kept;
     Generator {
         kept,
-        first: wrapping_add_u16(fresh.first, first),
-        second: wrapping_add_u16(fresh.second, second),
+        first: fresh.first.wrapping_add(first),
+        second: fresh.second.wrapping_add(second),
     }
 }

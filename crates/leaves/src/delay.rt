@@ -1,6 +1,6 @@
 // Delays.
 use crate::{case, number};
-use delays::{Coded, Meant};
+use delays::{CodeRefusal, DelayRefusal};
 
 // Four codes: the delays that they mean, or the refusal.
 pub fn meant(case: &[u8]) -> u64 {
@@ -11,8 +11,8 @@ pub fn meant(case: &[u8]) -> u64 {
         case::short(case, 3),
     ];
     match meanings::meaning(codes) {
-        Meant::Delays(a, b, c, d) => number::packed(a, b, c, d),
-        Meant::TooLarge(subframe) => number::refused(2, (subframe % 65536) as u16),
+        Ok(delays) => number::packed(delays),
+        Err(CodeRefusal::TooLarge(subframe)) => number::refused(2, subframe),
     }
 }
 
@@ -25,8 +25,8 @@ pub fn coded(case: &[u8]) -> u64 {
         case::word(case, 6),
     ];
     match coder::codes(twelfths) {
-        Coded::Codes(a, b, c, d) => number::packed(a, b, c, d),
-        Coded::NotListed(subframe) => number::refused(4, subframe),
-        Coded::OutsideWindow(subframe) => number::refused(5, subframe),
+        Ok(codes) => number::packed(codes),
+        Err(DelayRefusal::NotListed(subframe)) => number::refused(4, subframe),
+        Err(DelayRefusal::OutsideWindow(subframe)) => number::refused(5, subframe),
     }
 }

@@ -1,22 +1,22 @@
 // Gains.
 use crate::{case, number};
-use gains::Gain;
+use gains::Refusal;
 
 // The gain of an index, or the index of the nearest one.
 pub fn number(kind: u8, case: &[u8]) -> u64 {
     match kind {
         b'c' => value(gains::cg(case::short(case, 0))),
         b'p' => value(gains::pg(case::short(case, 0))),
-        b'n' => nearest::nearest_cg(case::signed(case)) as u64,
-        _ => nearest::nearest_pg(case::signed(case)) as u64,
+        b'n' => u64::from(nearest::nearest_cg(case::signed(case))),
+        _ => u64::from(nearest::nearest_pg(case::signed(case))),
     }
 }
 
 // A gain, or the refusal.
-fn value(gain: Gain) -> u64 {
+fn value(gain: Result<i32, Refusal>) -> u64 {
     match gain {
-        Gain::Value(v) => signed(v),
-        Gain::TooLarge => number::refused(2, 0),
+        Ok(v) => signed(v),
+        Err(Refusal::TooLarge) => number::refused(2, 0),
     }
 }
 
@@ -24,5 +24,5 @@ fn value(gain: Gain) -> u64 {
 pub fn signed(x: i32) -> u64 {
     let mut room = [b'.'; 8];
     decimals::put_signed(&mut room, 0, x);
-    case::word(&room, 0) as u64 + 4294967296 * case::word(&room, 2) as u64
+    u64::from(case::word(&room, 0)) + 4294967296 * u64::from(case::word(&room, 2))
 }

@@ -13,33 +13,31 @@ mod room;
 
 ghost use Rattle.std.specs.Prelude.{◌≤◌, length};
 
-use input::{STDIN, STDOUT};
+use std::io::{self, Write};
 
-fn main() {
-    let mut cases = io::large_buffer();
-    let n = io::read_full(STDIN, &mut cases);
-    run(&cases[..n]);
+fn main(rt: HostRuntime) {
+    let mut cases = [0u8; 65536];
+    let n = input::read_all(&mut rt.stdin(), &mut cases).unwrap_or(0);
+    let _ = run(&mut rt.stdout(), &cases[..n]);
 }
 
 // The first four bytes tell how many rounds more there are than one, and each case is printed where there are none. Last
 // is the sum.
-fn run(s: &[u8]) {
+fn run(out: &mut impl Write, s: &[u8]) -> io::Result<()> {
     if 65536 < s.len() {
-        return;
+        return Ok(());
     }
     let more = case::word(s, 0);
-    let mut sum = through(s, 0, more == 0);
-    let mut r = 0;
-    while r < more {
-        sum = through(s, sum, false);
-        r += 1;
+    let mut sum = through(out, s, 0, more == 0)?;
+    for _ in 0..more {
+        sum = through(out, s, sum, false)?;
     }
-    print(sum);
+    writeln!(out, "{sum}")
 }
 
 // Goes through the cases once: each has a kind, how many bytes follow, and those. Answers the sum with what they add to
 // it.
-fn through(s: &[u8], before: u64, printing: bool) -> u64
+fn through(out: &mut impl Write, s: &[u8], before: u64, printing: bool) -> io::Result<u64>
     requires { length s.now ≤ 65536 }
 {
     let mut sum = before;
@@ -47,27 +45,21 @@ fn through(s: &[u8], before: u64, printing: bool) -> u64
     while at < s.len() {
         let next = at + 1;
         if s.len() <= next {
-            return sum;
+            return Ok(sum);
         }
         let first = at + 2;
-        let end = first + case::wide(s[next]) as usize;
+        let end = first + usize::from(s[next]);
         if s.len() < end {
-            return sum;
+            return Ok(sum);
         }
         let n = answered(s[at], &s[first..end]);
         if printing {
-            print(n);
+            writeln!(out, "{n}")?;
         }
-        sum = std::num::wrapping_add_u64(sum, n);
+        sum = sum.wrapping_add(n);
         at = end;
     }
-    sum
-}
-
-// Prints a number on a line.
-fn print(n: u64) {
-    io::print_decimal(STDOUT, n);
-    io::write_all(STDOUT, b"\n");
+    Ok(sum)
 }
 
 // The number for the answer to a case, by its kind.

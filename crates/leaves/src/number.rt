@@ -2,12 +2,12 @@
 
 // A refusal's number and what it tells.
 pub fn refused(refusal: u16, tells: u16) -> u64 {
-    9000000000000000000 + 100000 * refusal as u64 + tells as u64
+    9000000000000000000 + 100000 * u64::from(refusal) + u64::from(tells)
 }
 
 // Four numbers of sixteen bits, the first lowest.
-pub fn packed(a: u16, b: u16, c: u16, d: u16) -> u64 {
-    a as u64 + 65536 * b as u64 + 4294967296 * c as u64 + 281474976710656 * d as u64
+pub fn packed([a, b, c, d]: [u16; 4]) -> u64 {
+    u64::from(a) + 65536 * u64::from(b) + 4294967296 * u64::from(c) + 281474976710656 * u64::from(d)
 }
 
 const MANY: u64 = 288230376151711744;

@@ -8,7 +8,7 @@ ghost use Rattle.tally.specs.Book.{entries_in, entries_of, tallied, book_then};
 ghost use Rattle.tally.specs.Entering.{entering_of, book_after_recording};
 ghost use Rattle.ledger.specs.Results.{entry_with, enter_result, entering_result, held_result, count_left};
 
-use tally::{Entering, Entry, Holding, Tallied};
+use tally::{Entry, RecordingRefusal, Refusal, Tallied};
 
 // Enters an entry: 0 entered, 1 already held, or minus a refusal.
 pub fn oatlantern_tally_enter(
@@ -31,14 +31,13 @@ pub fn oatlantern_tally_enter(
 }
 
 // What entering comes to as a number.
-fn result(tallied: Tallied) -> i32
+fn result(tallied: Result<Tallied, Refusal>) -> i32
     ensures { result ≡ enter_result tallied }
 {
     match tallied {
-        Tallied::Entered => 0,
-        Tallied::AlreadyHeld => 1,
-        Tallied::OtherCount => verdicts::minus(tallied.refusal_number()),
-        Tallied::Full => verdicts::minus(tallied.refusal_number()),
+        Ok(Tallied::Entered) => 0,
+        Ok(Tallied::AlreadyHeld) => 1,
+        Err(refusal) => verdicts::minus(refusal.refusal_number()),
     }
 }
 
@@ -56,8 +55,9 @@ pub fn oatlantern_tally_enter_recording(
     let entering = entering::enter_recording(book, recording, count);
     let verdict = verdicts::tell(recording, told);
     match entering {
-        Entering::Done(tallied) => result(tallied),
-        Entering::Refused(_) => verdict,
+        Ok(tallied) => result(Ok(tallied)),
+        Err(RecordingRefusal::NotEntered(refusal)) => result(Err(refusal)),
+        Err(RecordingRefusal::Unsound(_)) => verdict,
     }
 }
 
@@ -72,11 +72,11 @@ pub fn oatlantern_tally_held(
     ensures count_after { count.new ≡ count_left (holding_in (entries_of book.now) unit number) count.old }
 {
     match asking::ask(book, unit, number) {
-        Holding::Count(held) => {
+        Some(held) => {
             *count = [held];
             1
         }
-        Holding::Nothing => 0,
+        None => 0,
     }
 }
 

@@ -43,27 +43,21 @@ module _ (numbers : List ℕ) where
     pub shown_byte : 8 ≤ c → Put o at (c ∷ []) at' o' → Put o at (shown_by numbers c) end out
     shown_byte h p = put_as o at (c ∷ []) (shown_by numbers c) (rw (le-ltb c 8 h)) (ends ∙ p.0, stays ∙ p.1)
 
--- what the first k bytes of the form stand for is laid
-pub record Laying (o : List ℕ) (at : ℕ) (numbers form : List ℕ) (size : ℕ) (o' : List ℕ) (end k : ℕ) : Type 0 where
+-- what the first k bytes of a form stand for is laid
+pub record Laying (o : List ℕ) (at : ℕ) (numbers form o' : List ℕ) (end k : ℕ) : Type 0 where
   pub put : Put o at (filled_in numbers (take k form)) end o'
-  pub upto : k ≤ size
 
 -- before the first byte nothing is laid
-pub laying_start : (o : List ℕ) (at : ℕ) (numbers form : List ℕ) (size : ℕ) {end : ℕ} → end ≡ min at (length o)
-    → Laying o at numbers form size o end 0
-laying_start o at numbers form size e =
-    record {
-      put = put_as o at [] (filled_in numbers []) (filled_none numbers) (put_nothing o at e);
-      upto = omega arith;
-    }
+pub laying_start : (o : List ℕ) (at : ℕ) (numbers form : List ℕ) {end : ℕ} → end ≡ min at (length o)
+    → Laying o at numbers form o end 0
+laying_start o at numbers form e =
+    record { put = put_as o at [] (filled_in numbers []) (filled_none numbers) (put_nothing o at e) }
 
-module _ {o : List ℕ} {at : ℕ} {numbers form : List ℕ} {size : ℕ} {o' : List ℕ} {end k : ℕ}
-    (l : Laying o at numbers form size o' end k) where
+module _ {o : List ℕ} {at : ℕ} {numbers form o' : List ℕ} {end k : ℕ} (l : Laying o at numbers form o' end k) where
   -- a turn lays what one byte more stands for
-  pub laying_on : k < size → k < length form → {o'' : List ℕ} {end' : ℕ}
-      → Put o' end (shown_by numbers (get_or form k 0)) end' o''
-      → Laying o at numbers form size o'' end' (k + 1)
-  laying_on h w p =
+  pub laying_on : k < length form → {o'' : List ℕ} {end' : ℕ}
+      → Put o' end (shown_by numbers (get_or form k 0)) end' o'' → Laying o at numbers form o'' end' (k + 1)
+  laying_on w p =
       record {
         put =
             put_as o at (filled_in numbers (take k form) ++ shown_by numbers (get_or form k 0))
@@ -72,17 +66,16 @@ module _ {o : List ℕ} {at : ℕ} {numbers form : List ℕ} {size : ℕ} {o' : 
             ∙ sym (filled_join numbers (take k form) (get_or form k 0 ∷ []))
             ∙ ap (filled_in numbers) (sym (take-suc form k 0 w) ∙ ap (λ (n : ℕ). take n form) (sym (add-one k))))
             (put_then o at _ _ l.put p);
-        upto = omega arith;
       }
 
-  -- after the last all is laid, of a form that asks for no more bytes than it has, and of one that asks for more
-  pub laying_done : size ≤ k → (asked : ℕ) → size ≡ min asked (length form)
-      → Put o at (filled_in numbers (take asked form)) end o'
-  laying_done h asked m =
-      put_as o at (filled_in numbers (take k form)) (filled_in numbers (take asked form))
-      (ap (filled_in numbers) (all (dec_le asked (length form)))) l.put
-    where
-      all : Dec (asked ≤ length form) → take k form ≡ take asked form
-      all (yes w) = let e : k ≡ asked = omega (arith, l.upto, m) in ap (λ (n : ℕ). take n form) e
-      all (no w) =
-          take_all k form (omega (arith, l.upto, m)) ∙ sym (take_all asked form (omega arith))
+  -- after the last all is laid
+  pub laying_done : length form ≤ k → Put o at (filled_in numbers form) end o'
+  laying_done h = put_as o at (filled_in numbers (take k form)) (filled_in numbers form) (ap (filled_in numbers) (take_all k form h)) l.put
+
+-- of a form that asks for no more bytes than it has, and of one that asks for more
+pub all_asked : (form : List ℕ) (asked : ℕ) {size : ℕ} → size ≡ min asked (length form) → take size form ≡ take asked form
+all_asked form asked {size} m = go (dec_le asked (length form))
+  where
+    go : Dec (asked ≤ length form) → take size form ≡ take asked form
+    go (yes w) = let e : size ≡ asked = omega (arith, m) in ap (λ (n : ℕ). take n form) e
+    go (no w) = take_all size form (omega (arith, m)) ∙ sym (take_all asked form (omega arith))

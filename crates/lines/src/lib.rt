@@ -57,17 +57,14 @@ pub fn put_form(out: &mut [u8], at: usize, form: Form) -> usize
     ensures value { result ≡ after out.old at (form_text form) }
     ensures out_after { out.new ≡ laid out.old at (form_text form) }
 {
-    let size = text::least(form.size, 28);
-    let mut end = text::least(at, out.len());
-    let mut i = 0;
-    while i < size {
-        let c = form.bytes[i];
+    let size = form.size.min(28);
+    let mut end = at.min(out.len());
+    for &c in &form.bytes[..size] {
         if c < 8 {
             end = decimals::put_number(out, end, form.numbers[c as usize]);
         } else {
             end = text::put_byte(out, end, c);
         }
-        i += 1;
     }
     end
 }

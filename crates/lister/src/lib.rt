@@ -5,7 +5,7 @@ ghost use Rattle.std.specs.Prelude.{◌≡◌, length};
 ghost use Rattle.listing.specs.Listing.{listed_of, listing_left};
 ghost use Rattle.lister.specs.Results.{list_result, end_left, numbers_left};
 
-use listing::Listed;
+use listing::Unlisted;
 
 // Lists any bytes as a recording, and tells where the text ends and what the verdict tells: 0, or minus a refusal. A refused recording
 // is listed all the same; a text buffer of the wrong length is refused, and nothing is written.
@@ -21,8 +21,8 @@ pub fn oatlantern_list(
     ensures told_after { told.new ≡ numbers_left (listed_of recording.now (length text.old)) recording.now told.old }
 {
     match listing::list(recording, text) {
-        Listed::WrongLength => -1,
-        Listed::Text(end) => {
+        Err(Unlisted::WrongLength) => -1,
+        Ok(end) => {
             *ending = [end];
             verdicts::tell(recording, told)
         }

@@ -8,11 +8,13 @@ use native.Mathlib.Omega.{arith}
 use borrow.Author.Tests.{eq-eqb, ne_eqb, eqb-true}
 use lib.Dec.{eqb}
 use lib.ListN.{length, drop, length-append}
+use Rattle.std.specs.Prelude.{Ok, Err}
+use Rattle.listing.specs.declared.Unlisted.TheVariants.{WrongLength}
 use Rattle.text.specs.Ascii.{ascii}
 use Rattle.text.specs.Decimal.{decimal, digits_in}
 use Rattle.blocks.specs.Walk.{walked_of}
 use Rattle.blocks.specs.Frames.{frames_of}
-use Rattle.blocks.specs.declared.Ending.{Ending}
+use Rattle.blocks.specs.Walk.{Ending}
 use Rattle.values.specs.declared.Outcome.TheVariants.{Expansion}
 use Rattle.frame.specs.Correction.{number_of_case}
 use Rattle.frame.specs.declared.Correction.{Correction}
@@ -21,14 +23,13 @@ use Rattle.lines.specs.Lines.{fields, letter_of, corrected, rest_of, frame_line,
 use Rattle.lines.proofs.Lines.{place_line, size_line}
 use Rattle.listing.specs.Listing.{said_of, sound_text, text_by, listing_of, room, listed_of, listing_left, refusal_of}
 use Rattle.listing.specs.Promised.{ListingStands, FaultsListed, LetterListed, RefusedListingStays}
-use Rattle.listing.specs.declared.Listed.TheVariants.{Text, WrongLength}
 
 -- a text is answered only for a buffer that has room for it, and its length is the listing's
-pub text_answered : (s : List ℕ) (n m : ℕ) → listed_of s n ≡ Text m → (n ≡ room) × (m ≡ length (listing_of s))
+pub text_answered : (s : List ℕ) (n m : ℕ) → listed_of s n ≡ Ok m → (n ≡ room) × (m ≡ length (listing_of s))
 unfolding listed_of
 text_answered s n m e = go (eqb n room) refl e
   where
-    go : (b : Bool) → eqb n room ≡ b → cond b (Text (length (listing_of s))) WrongLength ≡ Text m
+    go : (b : Bool) → eqb n room ≡ b → cond b (Ok (length (listing_of s))) (Err WrongLength) ≡ Ok m
         → (n ≡ room) × (m ≡ length (listing_of s))
     go true t e = (eqb-true n room t, let l : length (listing_of s) ≡ m = cc in sym l)
     go false t e = absurd (let z : ◌≡◌ {A = ℕ} 0 1 = cc in omega arith)
@@ -96,18 +97,18 @@ pub refused_listing_stays : RefusedListingStays
 unfolding RefusedListingStays listed_of listing_left
 refused_listing_stays s o = ((told, refused), λ w. rw (ne_eqb (length o) room w))
   where
-    told : refusal_of (cond (eqb (length o) room) (Text (length (listing_of s))) WrongLength) ≡ 1 → length o ≡ room → ⊥
+    told : refusal_of (cond (eqb (length o) room) (Ok (length (listing_of s))) (Err WrongLength)) ≡ 1 → length o ≡ room → ⊥
     told e long =
-        let z : refusal_of (cond (eqb (length o) room) (Text (length (listing_of s))) WrongLength)
+        let z : refusal_of (cond (eqb (length o) room) (Ok (length (listing_of s))) (Err WrongLength))
         ≡ 0 = rw (eq-eqb (length o) room long) in
         omega (arith, e, z)
 
     refused : (length o ≡ room → ⊥)
-        → refusal_of (cond (eqb (length o) room) (Text (length (listing_of s))) WrongLength) ≡ 1
+        → refusal_of (cond (eqb (length o) room) (Ok (length (listing_of s))) (Err WrongLength)) ≡ 1
     refused w = rw (ne_eqb (length o) room w)
 
 -- the text answered is within the buffer
-pub text_within : (s o o' : List ℕ) (m : ℕ) → Text m ≡ listed_of s (length o) → o' ≡ listing_left s o → m ≤ length o'
+pub text_within : (s o o' : List ℕ) (m : ℕ) → Ok m ≡ listed_of s (length o) → o' ≡ listing_left s o → m ≤ length o'
 text_within s o o' m e l =
     let t = text_answered s (length o) m (sym e) in
     rw (l ∙ text_left s o t.0) (simp length-append (omega (arith, t.1)))

@@ -7,13 +7,15 @@ use native.Mathlib.Omega.{arith}
 use borrow.Author.Tests.{eq-eqb, ne_eqb}
 use lib.ListN.{length, drop, get_or}
 use lib.Seq.{take_all}
+use Rattle.std.specs.Prelude.{Ok, Err, Result}
+use Rattle.listing.specs.declared.Unlisted.TheVariants.{WrongLength}
+use Rattle.listing.specs.declared.Unlisted.{Unlisted}
 use Rattle.values.specs.Values.{fresh_state}
 use Rattle.values.specs.declared.State.{State}
 use Rattle.blocks.specs.Walk.{walked_of}
 use Rattle.blocks.specs.Frames.{frames_of}
 use Rattle.blocks.specs.declared.Cause.{Cause}
-use Rattle.blocks.specs.declared.Ending.{Ending}
-use Rattle.blocks.specs.declared.Ending.TheVariants.{Sound, Refused}
+use Rattle.blocks.specs.Walk.{Ending}
 use Rattle.blocks.specs.declared.Walk.{Walk}
 use Rattle.blocks.specs.declared.Walked.{Walked}
 use Rattle.passes.specs.Pass.{begun_at}
@@ -24,17 +26,15 @@ use Rattle.lines.specs.Lines.{line_of}
 use Rattle.lines.specs.declared.Line.TheVariants as Line
 use Rattle.listing.specs.Listing.{head_of, body_of, sound_text, text_by, listing_of, room, listed_of, listing_left}
 use Rattle.listing.specs.Promised.{ListingFits}
-use Rattle.listing.specs.declared.Listed.{Listed}
-use Rattle.listing.specs.declared.Listed.TheVariants.{Text, WrongLength}
 use Rattle.listing.proofs.Laws.{listing_by}
 use Rattle.listing.proofs.Short.{listing_fits}
 
 -- what is answered, and what the buffer holds then
-abbrev pub Answered : List ℕ → List ℕ → Listed → List ℕ → Type 0
+abbrev pub Answered : List ℕ → List ℕ → Result ℕ Unlisted → List ℕ → Type 0
 Answered s o r o' = (r ≡ listed_of s (length o)) × (o' ≡ listing_left s o)
 
 -- a buffer of another length
-pub wrong_length : (s o : List ℕ) → (length o ≡ room → ⊥) → Answered s o WrongLength o
+pub wrong_length : (s o : List ℕ) → (length o ≡ room → ⊥) → Answered s o (Err WrongLength) o
 unfolding listed_of listing_left
 wrong_length s o w = (rw (ne_eqb (length o) room w), rw (ne_eqb (length o) room w))
 
@@ -48,13 +48,13 @@ laid_front o t h =
 
 module _ (s o : List ℕ) (bytes : (i : ℕ) → get_or s i 0 < 256) (long : length o ≡ room) where
   -- the whole listing, laid at the start
-  listed_whole : {end : ℕ} {o' : List ℕ} → Put o 0 (listing_of s) end o' → Answered s o (Text end) o'
+  listed_whole : {end : ℕ} {o' : List ℕ} → Put o 0 (listing_of s) end o' → Answered s o (Ok end) o'
   unfolding listed_of listing_left ListingFits
   listed_whole {end} {o'} p =
       let f : length (listing_of s) ≤ room = listing_fits s bytes in
       let e : end ≡ length (listing_of s) = omega (arith, p.0) in
       let l : length (listing_of s) ≤ length o = omega arith in (
-        rw (eq-eqb (length o) room long) (ap Text e),
+        rw (eq-eqb (length o) room long) (ap Ok e),
         rw (eq-eqb (length o) room long)
             (p.1 ∙ laid_front o (listing_of s) l),
       )
@@ -66,17 +66,17 @@ module _ (s o : List ℕ) (bytes : (i : ℕ) → get_or s i 0 < 256) (long : len
         ∙ sym (listing_by s e (sym (ap (λ (x : Walked). x.ending) is) ∙ ends))
 
     -- a refused recording
-    pub listed_refused : {cause : Cause} → w.ending ≡ Refused cause → {end : ℕ} {o' : List ℕ}
+    pub listed_refused : {cause : Cause} → w.ending ≡ Err cause → {end : ℕ} {o' : List ℕ}
         → Put o 0 (line_of (Line.Refused cause)) end o'
-        → Answered s o (Text end) o'
+        → Answered s o (Ok end) o'
     listed_refused {cause} ends p = listed_whole (put_as o 0 (line_of (Line.Refused cause)) (listing_of s)
-        (text_is (Refused cause) ends) p)
+        (text_is (Err cause) ends) p)
 
     -- a sound one
-    pub listed_sound : w.ending ≡ Sound → {end : ℕ} {o' : List ℕ} → Put o 0 (sound_text w.walk (frames_of s)) end o'
-        → Answered s o (Text end) o'
+    pub listed_sound : w.ending ≡ Ok tt → {end : ℕ} {o' : List ℕ} → Put o 0 (sound_text w.walk (frames_of s)) end o'
+        → Answered s o (Ok end) o'
     listed_sound ends p = listed_whole (put_as o 0 (sound_text w.walk (frames_of s)) (listing_of s)
-        (text_is Sound ends) p)
+        (text_is (Ok tt) ends) p)
 
 -- the return of `put_sound`: the first line, and then the frames, from a fresh state on
 pub sound_put : (o : List ℕ) (w : Walk) (frames : List (List ℕ)) {fresh : State} {begun : Pass} → fresh ≡ fresh_state

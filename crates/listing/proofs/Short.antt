@@ -1,11 +1,12 @@
 -- Every listing is short enough. The bounds are loose where the room is large: 3,640 lines of at most 35 bytes, and a
 -- thousand for each of the other lines. Assumes nothing.
 use mathlib.Core.Path.{◌≡◌, refl}
-use mathlib.Core.List.{List, [], ◌∷◌, ◌++◌}
+use mathlib.Core.List.{List, [], ◌∷◌}
 use Prim.Native.Nat.{ℕ, zero, suc, ◌+◌, ◌*◌, ◌^◌, ◌<◌, ◌≤◌}
 use native.Mathlib.Omega.{arith}
 use lib.Dec.{eqb}
 use lib.ListN.{length, get_or, take, length-append}
+use Rattle.std.specs.Prelude.{Ok, Err}
 use Rattle.laws.proofs.Chosen.{chosen}
 use Rattle.frame.specs.Correction.{number_of_case}
 use Rattle.frame.specs.Answers.{reading_of}
@@ -16,7 +17,6 @@ use Rattle.values.specs.Values.{fresh_state, values_of}
 use Rattle.values.specs.Outcome as values
 use Rattle.values.specs.declared.State.{State}
 use Rattle.values.specs.declared.Outcome.{Outcome}
-use Rattle.values.specs.declared.Outcome.TheVariants as Outcome
 use Rattle.values.proofs.Laws.{delays_most}
 use Rattle.blocks.specs.Walk.{walked_of}
 use Rattle.blocks.specs.Frames.{frames_of}
@@ -26,8 +26,7 @@ use Rattle.blocks.specs.declared.Cause.TheVariants.{TooLong, HeaderCut, PastEnd,
 use Rattle.blocks.specs.declared.Cause.TheVariants.{OutOfTurn, EndMissing, WrongCount, Extra}
 use Rattle.blocks.specs.declared.Told.{Told}
 use Rattle.blocks.specs.declared.Told.TheVariants.{Nothing, Place, PlaceAndSize}
-use Rattle.blocks.specs.declared.Ending.{Ending}
-use Rattle.blocks.specs.declared.Ending.TheVariants.{Sound, Refused}
+use Rattle.blocks.specs.Walk.{Ending}
 use Rattle.blocks.specs.declared.Walk.{Walk}
 use Rattle.blocks.proofs.Walks.{sound_short}
 use Rattle.passes.specs.Counted.{counts_of}
@@ -218,10 +217,10 @@ listing_fits s bytes = go (walked_of s).ending refl (walked_brief s bytes)
   where
     go : (e : Ending) → (walked_of s).ending ≡ e → Brief e
         → length (text_by e (sound_text (walked_of s).walk (frames_of s))) ≤ room
-    go Sound e p =
+    go (Ok _) e p =
         let k = walked_small s bytes in
         let w = sound_short s e in
         let b = body_short fresh_state (frames_of s) (frames_most s) in
         let l = head_short (walked_of s).walk (omega arith) (omega arith) (omega arith) in
         simp length-append (omega arith)
-    go (Refused cause) e p = let l = refused_short cause p in omega arith
+    go (Err cause) e p = let l = refused_short cause p in omega arith

@@ -9,6 +9,8 @@ use native.Mathlib.Decide.{dec_le}
 use borrow.Author.Tests.{leb-true}
 use lib.Dec.{eqb, leb, ltb}
 use lib.ListN.{length, get_or}
+use Rattle.std.specs.Prelude.{Result, Ok, Err}
+use Rattle.std.specs.declared.ops.ControlFlow.TheVariants.{Continue, Break}
 use Rattle.laws.specs.Bytes.{word_at}
 use Rattle.laws.proofs.Chosen.{chosen}
 use Rattle.blocks.specs.Blocks.{size_at, kind_at, right_size, block_at}
@@ -17,13 +19,12 @@ use Rattle.blocks.specs.Refusals.{told_of}
 use Rattle.blocks.specs.declared.Cause.TheVariants.{TooLong}
 use Rattle.blocks.specs.declared.Heading.{Heading}
 use Rattle.blocks.specs.declared.Block.{Block}
-use Rattle.blocks.specs.declared.Block.TheVariants.{Head, Voice, End, Broken}
-use Rattle.blocks.specs.declared.Ending.{Ending}
-use Rattle.blocks.specs.declared.Ending.TheVariants.{Sound, Refused}
+use Rattle.blocks.specs.declared.Cause.{Cause}
+use Rattle.blocks.specs.declared.Block.TheVariants.{Head, Voice, End}
+use Rattle.blocks.specs.Walk.{Ending}
 use Rattle.blocks.specs.declared.Walk.{Walk}
 use Rattle.blocks.specs.declared.Walked.{Walked}
-use Rattle.blocks.specs.declared.Moved.{Moved}
-use Rattle.blocks.specs.declared.Moved.TheVariants.{On, Done}
+use Rattle.blocks.specs.Walk.{Moved}
 use Rattle.blocks.proofs.Blocks.{head_held, end_held}
 use Rattle.blocks.proofs.Walks.{step_on, step_further, walked_keeps, walked_stops, too_long}
 use Rattle.lines.specs.Lines.{numbers_shown}
@@ -37,20 +38,20 @@ Tens (n ∷ ns) = (n < 10 ^ 10) × Tens ns
 
 -- so of what an ending shows, if it is a refusal
 unfoldable pub Brief : Ending → Type 0
-Brief Sound = Unit
-Brief (Refused cause) = Tens (numbers_shown (told_of cause))
+Brief (Ok _) = Unit
+Brief (Err cause) = Tens (numbers_shown (told_of cause))
 
 -- of what stands at a place
-BriefBlock : Block → Type 0
-BriefBlock (Head heading) = Unit
-BriefBlock (Voice size) = Unit
-BriefBlock (End told) = Unit
-BriefBlock (Broken cause) = Tens (numbers_shown (told_of cause))
+BriefBlock : Result Block Cause → Type 0
+BriefBlock (Ok (Head heading)) = Unit
+BriefBlock (Ok (Voice size)) = Unit
+BriefBlock (Ok (End told)) = Unit
+BriefBlock (Err cause) = Tens (numbers_shown (told_of cause))
 
 -- and of what a step comes to
 BriefMove : Moved → Type 0
-BriefMove (On w) = Unit
-BriefMove (Done ending) = Brief ending
+BriefMove (Continue w) = Unit
+BriefMove (Break ending) = Brief ending
 
 module _ (s : List ℕ) (short : length s ≤ longest) where
   -- the block at a place within the recording: a size that is told fits there
@@ -72,15 +73,15 @@ module _ (s : List ℕ) (short : length s ≤ longest) where
   unfolding Brief BriefBlock BriefMove Tens step_of
   step_brief w k = go (block_at s w.at) refl (block_brief w.at k)
     where
-      go : (b : Block) → block_at s w.at ≡ b → BriefBlock b → BriefMove (met s w b)
-      go (Head heading) e p = chosen BriefMove (not w.headed) (λ t. tt) (λ t. (omega arith, tt))
-      go (Voice size) e p = chosen BriefMove w.headed (λ t. tt) (λ t. (omega arith, tt))
-      go (End told) e p =
+      go : (b : Result Block Cause) → block_at s w.at ≡ b → BriefBlock b → BriefMove (met s w b)
+      go (Ok (Head heading)) e p = chosen BriefMove (not w.headed) (λ t. tt) (λ t. (omega arith, tt))
+      go (Ok (Voice size)) e p = chosen BriefMove w.headed (λ t. tt) (λ t. (omega arith, tt))
+      go (Ok (End told)) e p =
           chosen Brief (ltb 0 w.frames) (λ a.
           chosen Brief (eqb told w.frames) (λ b.
           chosen Brief (eqb (length s) (w.at + 6 + 4)) (λ c. tt)
           (λ c. (omega (arith, (end_held s w.at told e).0.fits), tt))) (λ b. (omega arith, tt))) (λ a. (omega arith, tt))
-      go (Broken cause) e p = p
+      go (Err cause) e p = p
 
 -- ---- the numbers of a head, and how many frames
 
@@ -97,14 +98,14 @@ unfolding word_at
 word_small s b at = omega (arith, b at, b (at + 1), b (at + 2), b (at + 3))
 
 module _ (s : List ℕ) (bytes : (i : ℕ) → get_or s i 0 < 256) where
-  small_on : (w next : Walk) → Small s w → step_of s w ≡ On next → Small s next
+  small_on : (w next : Walk) → Small s w → step_of s w ≡ Continue next → Small s next
   small_on w next k o =
       let f = step_further s w next o in
       let m = step_on s w next (λ x. (x.heading.unit < 10 ^ 10) × (x.heading.number < 10 ^ 10)) head
       (λ size e t. (k.unit, k.number)) o in
       record { within = f.within; few = f.room k.few; unit = m.0; number = m.1 }
     where
-      head : (h : Heading) → block_at s w.at ≡ Head h → w.headed ≡ false → (h.unit < 10 ^ 10)
+      head : (h : Heading) → block_at s w.at ≡ Ok (Head h) → w.headed ≡ false → (h.unit < 10 ^ 10)
           × (h.number < 10 ^ 10)
       head h e t =
           let a = (head_held s w.at h e).1 in
@@ -127,5 +128,5 @@ module _ (s : List ℕ) (bytes : (i : ℕ) → get_or s i 0 < 256) where
       go (yes short) =
           subst BriefMove (walked_stops s short) (step_brief s short (walked_of s).walk walked_small.within)
       go (no w) =
-          let e : Refused TooLong ≡ (walked_of s).ending = ap (λ (x : Walked). x.ending) (too_long s (omega arith)) in
+          let e : Err TooLong ≡ (walked_of s).ending = ap (λ (x : Walked). x.ending) (too_long s (omega arith)) in
           subst Brief e (omega arith, tt)

@@ -1,12 +1,13 @@
 -- The listing of a recording, byte for byte, and what a lent buffer holds after it.
-use Rattle.std.specs.Prelude.{cond, List, [], ◌++◌, ℕ, zero, suc, eqb, length, get_or, drop}
+use Rattle.std.specs.Prelude.{cond, List, [], ◌++◌, ℕ, zero, suc, eqb, length, get_or, drop, Ok, Err, Result}
+use Rattle.listing.specs.declared.Unlisted.TheVariants.{WrongLength}
+use Rattle.listing.specs.declared.Unlisted.{Unlisted}
 use Rattle.values.specs.Values.{fresh_state}
 use Rattle.values.specs.declared.State.{State}
 use Rattle.blocks.specs.Walk.{walked_of}
 use Rattle.blocks.specs.Frames.{frames_of}
 use Rattle.blocks.specs.declared.Walk.{Walk}
-use Rattle.blocks.specs.declared.Ending.{Ending}
-use Rattle.blocks.specs.declared.Ending.TheVariants.{Sound, Refused}
+use Rattle.blocks.specs.Walk.{Ending}
 use Rattle.values.specs.Outcome as values
 use Rattle.passes.specs.Counted.{counts_of}
 use Rattle.passes.specs.Pass.{frame_heard}
@@ -15,8 +16,6 @@ use Rattle.passes.specs.declared.Hearing.{Hearing}
 use Rattle.lines.specs.Lines.{line_of}
 use Rattle.lines.specs.declared.Line.TheVariants as Line
 use Rattle.lines.specs.declared.Said.{Said}
-use Rattle.listing.specs.declared.Listed.{Listed}
-use Rattle.listing.specs.declared.Listed.TheVariants.{Text, WrongLength}
 
 -- what is said of frame n, which was heard
 abbrev pub said_of : ℕ → Hearing → Said
@@ -58,8 +57,8 @@ sound_text walk frames = head_of walk ++ body_of fresh_state frames
 
 -- a refused recording prints only that
 abbrev pub text_by : Ending → List ℕ → List ℕ
-text_by Sound text = text
-text_by (Refused cause) text = line_of (Line.Refused cause)
+text_by (Ok _) text = text
+text_by (Err cause) text = line_of (Line.Refused cause)
 
 -- any bytes
 unfoldable pub listing_of : List ℕ → List ℕ
@@ -69,18 +68,18 @@ listing_of s = text_by (walked_of s).ending (sound_text (walked_of s).walk (fram
 abbrev pub room : ℕ
 room = 131072
 
-unfoldable pub listed_of : List ℕ → ℕ → Listed
-listed_of s n = cond (eqb n room) (Text (length (listing_of s))) WrongLength
+unfoldable pub listed_of : List ℕ → ℕ → Result ℕ Unlisted
+listed_of s n = cond (eqb n room) (Ok (length (listing_of s))) (Err WrongLength)
 
 -- a buffer of that length holds the whole text from its start on, and after it what stood there; any other is as it was
 unfoldable pub listing_left : List ℕ → List ℕ → List ℕ
 listing_left s o = cond (eqb (length o) room) (listing_of s ++ drop (length (listing_of s)) o) o
 
 -- the refusal numbers of document 01 and what each tells; 0 is no refusal
-abbrev pub refusal_of : Listed → ℕ
-refusal_of (Text n) = 0
-refusal_of WrongLength = 1
+abbrev pub refusal_of : Result ℕ Unlisted → ℕ
+refusal_of (Ok n) = 0
+refusal_of (Err WrongLength) = 1
 
-abbrev pub tells_of : Listed → List ℕ
-tells_of (Text n) = []
-tells_of WrongLength = []
+abbrev pub tells_of : Result ℕ Unlisted → List ℕ
+tells_of (Ok n) = []
+tells_of (Err WrongLength) = []

@@ -8,46 +8,37 @@ ghost use Rattle.blocks.specs.Walk.{walked_of};
 ghost use Rattle.blocks.specs.Frames.{frames_of};
 ghost use Rattle.passes.specs.Pass.{start_of};
 ghost use Rattle.listing.specs.Listing.{said_of, body_of, sound_text, listed_of, listing_left};
-ghost use Rattle.blocks.specs.declared.Ending.TheVariants.{Sound};
 
-use blocks::{Ending, Walk};
+use blocks::Walk;
 use lines::{Line, Said};
 use passes::{Hearing, Pass};
 use values::State;
 
-// The length of the text that was laid, or that the buffer was not 131,072 bytes.
-#[derive(Clone, Copy)]
-pub enum Listed {
-    Text(usize),
+// Why nothing is listed: the buffer is not 131,072 bytes.
+#[derive(Clone, Copy, Debug, PartialEq, Eq)]
+pub enum Unlisted {
     WrongLength,
 }
 
-// Lists any bytes as a recording, into a lent buffer. A refusal writes nothing.
-pub fn list(s: &[u8], out: &mut [u8]) -> Listed
+// Lists any bytes as a recording, into a lent buffer, and answers the length of the text. A refusal writes nothing.
+pub fn list(s: &[u8], out: &mut [u8]) -> Result<usize, Unlisted>
     ensures value { result ≡ listed_of s.now (length out.old) }
     ensures out_after { out.new ≡ listing_left s.now out.old }
 {
     if out.len() != 131072 {
-        return Listed::WrongLength;
+        return Err(Unlisted::WrongLength);
     }
     let walked = walk::walk_through(s);
-    let ending = walked.ending;
-    match ending {
-        Ending::Refused(cause) => {
-            let end = lines::put(out, 0, Line::Refused(cause));
-            Listed::Text(end)
-        }
-        Ending::Sound => {
-            let end = put_sound(out, s, walked.walk);
-            Listed::Text(end)
-        }
+    match walked.ending {
+        Err(cause) => Ok(lines::put(out, 0, Line::Refused(cause))),
+        Ok(()) => Ok(put_sound(out, s, walked.walk)),
     }
 }
 
 // Lays all lines of a sound recording whose blocks were walked.
 fn put_sound(out: &mut [u8], s: &[u8], walk: Walk) -> usize
     requires walk_value { walk ≡ (walked_of s.now).walk }
-    requires s_value { (walked_of s.now).ending ≡ Sound }
+    requires s_value { (walked_of s.now).ending ≡ Ok tt }
     ensures value { result ≡ after out.old 0 (sound_text walk (frames_of s.now)) }
     ensures out_after { out.new ≡ laid out.old 0 (sound_text walk (frames_of s.now)) }
 {
@@ -88,6 +79,7 @@ fn put_frames(out: &mut [u8], start: usize, s: &[u8], mut pass: Pass) -> usize
     ensures out_after { out.new ≡ laid out.old start (body_of pass.state (frames_of s.now)) }
 {
     let mut end = start;
+    // no index is counted: each step says where the next one begins, or that there is none
     loop {
         let step = steps::next(s, pass);
         if step.pass.frames == pass.frames {

@@ -1,6 +1,6 @@
 -- The table of 3.7.2 in code and in specs: what one computed test of each tells of every entry.
 -- Assumes nothing.
-use mathlib.Core.Path.{◌≡◌, ◌∙◌, sym, refl}
+use mathlib.Core.Path.{◌≡◌, ◌∙◌, sym, refl, ap}
 use mathlib.Core.Bool.{Bool, false}
 use mathlib.Core.List.{List}
 use Prim.Native.Nat.{ℕ, ◌+◌, ◌*◌, ◌/◌, ◌%◌, ◌^◌, ◌<◌, ◌≤◌}
@@ -10,16 +10,15 @@ use lib.Dec.{T, leb, eqb, leb→le, eqb→eq}
 use lib.ListN.{length, get_or, set}
 use lib.Pow.{pow_mono}
 use borrow.Author.Tests.{leb-false}
+use Rattle.std.specs.Prelude.{Err}
 use Rattle.laws.specs.Table.{every}
-use Rattle.laws.specs.Tabulate.{tabulate}
 use Rattle.laws.proofs.Table.{at, both_left, both_right}
-use Rattle.laws.proofs.Lowest.{NoneUpTo, none_yet, none_at_all, lowest_zero}
-use Rattle.laws.proofs.Wide.{fits_next, wide_next}
+use Rattle.laws.proofs.Lowest.{NoneUpTo, none_at_all, lowest_zero}
+use Rattle.laws.proofs.Wide.{wide_next}
 use Rattle.laws.proofs.Filled.{Filled, filled_more}
 use Rattle.lsp.specs.Table.{bits, column, entry_printed, as_printed, over_in, too_large_field, hz_at, hertz_of}
-use Rattle.lsp.specs.declared.Hertz.{Hertz}
-use Rattle.lsp.specs.declared.Verdict.TheVariants.{Within, TooLarge}
-use Rattle.lsp.proofs.Laws.{hertz_given, hertz_refused}
+use Rattle.lsp.specs.declared.Refusal.TheVariants.{TooLarge}
+use Rattle.lsp.proofs.Laws.{hertz_refused}
 
 -- the entry at row k for LSP i+1
 pub entry : (rows : List ℕ) → T (as_printed rows) → (i k : ℕ) → i < 10 → k < 16
@@ -58,37 +57,25 @@ row_small indices i e h =
     fits_row i (get_or indices i 0) h
     (sym (over_here indices i) ∙ lowest_zero (over_in indices) 10 e (i + 1) (omega arith) (omega arith))
 
--- the loop of `too_large`: the bits are as printed, and the first i indices fit
+-- the loop of `in_hertz`: the bits are as printed, and the first i indices fit
 pub record Fitting (widths indices : List ℕ) (i : ℕ) : Type 0 where
   pub held : widths ≡ bits
   pub fit : NoneUpTo (over_in indices) i
 
--- before the first turn no index is looked at
-pub none_fitting : (indices : List ℕ) → Fitting bits indices 0
-none_fitting indices = record { held = refl; fit = none_yet _ }
-
 module _ {widths indices : List ℕ} {i : ℕ} (s : Fitting widths indices i) where
-  -- an index has room for its shift
-  pub shift_small : i < 10 → get_or widths i 0 < 16
-  shift_small h = rw s.held (omega (arith, bits_most i h))
-
-  -- an index of which nothing is left after the shift fits
-  pub one_fitting : get_or indices i 0 / 2 ^ get_or widths i 0 ≡ 0 → Fitting widths indices (i + 1)
-  one_fitting e =
-      let f = fits_next (over_in indices) (get_or indices i 0) (get_or bits i 0) (over_here indices i) s.fit in
-      record { held = s.held; fit = f (rw s.held at e) }
-
   -- one of which something is left is the lowest that is too large
-  pub wide_found : i < 10 → (get_or indices i 0 / 2 ^ get_or widths i 0 ≡ 0 → ⊥) → i + 1 ≡ too_large_field indices
+  pub wide_found : i < 10 → (get_or indices i 0 / 2 ^ get_or widths i 0 ≡ 0 → ⊥) → Err (TooLarge (i + 1)) ≡ hertz_of indices
   unfolding too_large_field
   wide_found h e =
+      let is : i + 1 ≡ too_large_field indices =
       wide_next (over_in indices) (get_or indices i 0) (get_or bits i 0) (over_here indices i) s.fit 10 h
-      (rw s.held at e)
+      (rw s.held at e) in
+      ap (λ (j : ℕ). Err (TooLarge j)) is ∙ sym (hertz_refused indices (omega arith))
 
   -- after ten none is
-  pub all_fitting : 10 ≤ i → 0 ≡ too_large_field indices
+  pub all_fitting : 10 ≤ i → too_large_field indices ≡ 0
   unfolding too_large_field
-  all_fitting h = none_at_all (over_in indices) 10 s.fit h
+  all_fitting h = sym (none_at_all (over_in indices) 10 s.fit h)
 
 -- the loop of `looked_up`: with the entry at its index one place more holds Hz
 pub one_looked : (rows indices : List ℕ) {i : ℕ} {hz : List ℕ} → T (as_printed rows) → too_large_field indices ≡ 0
@@ -98,15 +85,3 @@ one_looked rows indices {i} {hz} printed e s h =
     let v : get_or rows (10 * get_or indices i 0 + i) 0 ≡ hz_at indices i =
     entry rows printed i (get_or indices i 0) h (row_small indices i e h) ∙ rw (add-sub_cancel i 1) refl in
     filled_more 0 (hz_at indices) 10 i hz _ s h v
-
--- the two answers of `in_hertz`, by the lowest LSP that is too large
-module _ (indices : List ℕ) {large : ℕ} (is : large ≡ too_large_field indices) where
-  -- an index too large is told by its LSP
-  pub refused : (large ≡ 0 → ⊥)
-      → ◌≡◌ {A = Hertz} (record { verdict = TooLarge large; hz = tabulate (λ k. 0) 10 }) (hertz_of indices)
-  refused n = rw is (sym (hertz_refused indices (omega arith)))
-
-  -- where there is none, all ten are in Hz
-  pub heard : {hz : List ℕ} → large ≡ 0 → hz ≡ tabulate (hz_at indices) 10
-      → ◌≡◌ {A = Hertz} (record { verdict = Within; hz = hz }) (hertz_of indices)
-  heard z f = rw f (sym (hertz_given indices (sym is ∙ z)))

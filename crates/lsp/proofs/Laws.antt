@@ -1,21 +1,23 @@
 -- What the definitions of specs/ say, for whoever cites the contracts: the table, the order mark, the averages.
 -- Assumes nothing.
 use mathlib.Core.Path.{◌≡◌, ◌∙◌, refl, ap}
-use mathlib.Core.List.{List, []}
+use mathlib.Core.List.{List, [], ◌∷◌}
 use Prim.Native.Nat.{ℕ, ◌+◌, ◌*◌, ◌-◌, ◌^◌, ◌<◌, ◌≤◌}
 use native.Mathlib.Omega.{arith}
 use native.Mathlib.Decide.{dec_lt}
 use lib.Dec.{eqb, eqb→eq}
 use lib.ListN.{length, get_or}
 use borrow.Author.Tests.{ltb-true, ltb-false, lt-ltb, le-ltb, leb-true, leb-false, le-leb, lt-leb, eq-eqb, ne_eqb}
-use Rattle.laws.specs.Tabulate.{tabulate}
+use Rattle.laws.specs.Tabulate.{tabulate, tabulate_from}
 use Rattle.laws.proofs.Table.{at}
 use Rattle.laws.proofs.Tabulate.{get_d_tabulate}
 use Rattle.laws.proofs.Cases.{of_four}
 use Rattle.laws.proofs.Lowest.{lowest_at, lowest_none, lowest_zero, lowest_found}
-use Rattle.lsp.specs.Table.{bits, hz_table, column, hz_of, lsp, over_in, too_large_field, hz_at, hertz_of}
-use Rattle.lsp.specs.declared.Hertz.{Hertz}
-use Rattle.lsp.specs.declared.Verdict.TheVariants.{Within, TooLarge}
+use Rattle.std.specs.Prelude.{Result, Ok, Err}
+use Rattle.std.specs.Result.{result_unwrap_or}
+use Rattle.lsp.specs.Table.{bits, hz_table, column, hz_of, lsp, over_in, too_large_field, hz_at, hertz_of, hz_in}
+use Rattle.lsp.specs.declared.Refusal.{Refusal}
+use Rattle.lsp.specs.declared.Refusal.TheVariants.{TooLarge}
 use Rattle.lsp.specs.Order.{falls, mark_of, InOrder}
 use Rattle.lsp.specs.Average.{average_of, average_at, averages_of}
 use Rattle.lsp.proofs.Weights.{eighths, eighths_at}
@@ -119,19 +121,26 @@ module _ (indices : List ℕ) where
 
   -- where every index fits, the ten are in Hz
   pub hertz_given : too_large_field indices ≡ 0
-      → hertz_of indices ≡ record { verdict = Within; hz = tabulate (hz_at indices) 10 }
+      → hertz_of indices ≡ Ok (tabulate (hz_at indices) 10)
   unfolding hertz_of
   hertz_given e = rw (eq-eqb (too_large_field indices) 0 e)
 
   -- where one does not, it is refused
   pub hertz_refused : 1 ≤ too_large_field indices
-      → hertz_of indices ≡ record { verdict = TooLarge (too_large_field indices); hz = tabulate (λ k. 0) 10 }
+      → hertz_of indices ≡ Err (TooLarge (too_large_field indices))
   unfolding hertz_of
   hertz_refused h = rw (ne_eqb (too_large_field indices) 0 (λ z. omega arith))
 
   -- LSP j is the entry of its column at its index
-  pub hertz_at : too_large_field indices ≡ 0 → (j : ℕ) → 1 ≤ j → j ≤ 10 → lsp (hertz_of indices).hz j ≡ hz_of j (lsp indices j)
+  pub hertz_at : too_large_field indices ≡ 0 → (j : ℕ) → 1 ≤ j → j ≤ 10 → lsp (hz_in (hertz_of indices)) j ≡ hz_of j (lsp indices j)
   hertz_at e j a b =
       let m : j - 1 + 1 ≡ j = omega arith in
-      ap (λ (h : Hertz). lsp h.hz j) (hertz_given e) ∙ get_d_tabulate (hz_at indices) 0 10 (j - 1) (omega arith)
+      ap (λ (h : Result (List ℕ) Refusal). lsp (hz_in h) j) (hertz_given e) ∙ get_d_tabulate (hz_at indices) 0 10 (j - 1) (omega arith)
       ∙ ap (λ (n : ℕ). hz_of n (lsp indices n)) m
+
+-- the Hz that are answered, or ten zeros
+pub hz_or_none : (m : Result (List ℕ) Refusal)
+    → result_unwrap_or m (0 ∷ 0 ∷ 0 ∷ 0 ∷ 0 ∷ 0 ∷ 0 ∷ 0 ∷ 0 ∷ 0 ∷ []) ≡ hz_in m
+unfolding tabulate_from
+hz_or_none (Ok hz) = refl
+hz_or_none (Err e) = refl

@@ -1,12 +1,11 @@
 -- The coding of the ten line spectral parameters (3.7.2), in Hz, and its refusal (document 01, refusal 2).
-use Rattle.std.specs.Prelude.{Bool, List, [], ◌∷◌, ℕ, ◌+◌, ◌-◌, ◌/◌, ◌%◌, ◌^◌, leb, eqb, length, get_or}
+use Rattle.std.specs.Prelude.{Bool, List, [], ◌∷◌, ℕ, ◌+◌, ◌-◌, ◌/◌, ◌%◌, ◌^◌, leb, eqb, length, get_or, Result, Ok, Err}
 use Rattle.laws.specs.Table.{both, every}
 use Rattle.laws.specs.Lowest.{lowest}
 use Rattle.laws.specs.Tabulate.{tabulate}
 use Rattle.laws.specs.Unless.{unless}
-use Rattle.lsp.specs.declared.Hertz.{Hertz}
-use Rattle.lsp.specs.declared.Verdict.{Verdict}
-use Rattle.lsp.specs.declared.Verdict.TheVariants.{Within, TooLarge}
+use Rattle.lsp.specs.declared.Refusal.{Refusal}
+use Rattle.lsp.specs.declared.Refusal.TheVariants.{TooLarge}
 
 -- how many bits the index of each parameter has, LSP 1 first
 abbrev pub bits : List ℕ
@@ -60,18 +59,22 @@ too_large_field indices = lowest (over_in indices) 10
 abbrev pub hz_at : List ℕ → ℕ → ℕ
 hz_at indices i = hz_of (i + 1) (lsp indices (i + 1))
 
--- ten indices in Hz, or the refusal, and then nothing but 0
-unfoldable pub hertz_of : List ℕ → Hertz
+-- ten indices in Hz, or the refusal
+unfoldable pub hertz_of : List ℕ → Result (List ℕ) Refusal
 hertz_of indices =
-    unless (eqb (too_large_field indices) 0) (record { verdict = TooLarge (too_large_field indices); hz = tabulate (λ k. 0) 10 })
-    (record { verdict = Within; hz = tabulate (hz_at indices) 10 })
+    unless (eqb (too_large_field indices) 0) (Err (TooLarge (too_large_field indices))) (Ok (tabulate (hz_at indices) 10))
+
+-- the Hz that are answered, and of a refusal nothing but 0
+abbrev pub hz_in : Result (List ℕ) Refusal → List ℕ
+hz_in (Ok hz) = hz
+hz_in (Err e) = tabulate (λ k. 0) 10
 
 -- the refusal's number, 0 where there is none
-abbrev pub refusal_of : Verdict → ℕ
-refusal_of Within = 0
-refusal_of (TooLarge j) = 2
+abbrev pub refusal_of : Result (List ℕ) Refusal → ℕ
+refusal_of (Ok hz) = 0
+refusal_of (Err (TooLarge j)) = 2
 
 -- what the refusal tells: LSP j is field j
-abbrev pub tells_of : Verdict → List ℕ
-tells_of Within = []
-tells_of (TooLarge j) = j ∷ []
+abbrev pub tells_of : Result (List ℕ) Refusal → List ℕ
+tells_of (Ok hz) = []
+tells_of (Err (TooLarge j)) = j ∷ []

@@ -5,30 +5,21 @@
 ghost use Rattle.std.specs.Prelude.{◌≡◌};
 ghost use Rattle.lsp.specs.Order.{mark_of};
 
-// Whether each index fits its bits, or the lowest LSP whose index is too large.
-#[derive(Clone, Copy)]
-pub enum Verdict {
-    Within,
+// Why ten indices are not put in Hz, with the lowest LSP whose index is too large.
+#[derive(Clone, Copy, Debug, PartialEq, Eq)]
+pub enum Refusal {
     TooLarge(usize),
 }
 
-// Ten LSPs in Hz; all are 0 where an index was refused.
-#[derive(Clone, Copy)]
-pub struct Hertz {
-    pub verdict: Verdict,
-    pub hz: [u16; 10],
-}
-
-// The order mark: the lowest j for which LSP j+1 is below LSP j, or 0.
+// The order mark: the lowest j for which LSP j+1 is below LSP j, or 0: so the listing and the results for C tell it, and
+// `MarkIsLowest` says it.
 pub fn order_mark(hz: [u16; 10]) -> usize
     ensures { result ≡ mark_of hz }
 {
-    let mut i = 0;
-    while i < 9 {
-        if hz[i + 1] < hz[i] {
-            return i + 1;
+    for j in 1..10 {
+        if hz[j] < hz[j - 1] {
+            return j;
         }
-        i += 1;
     }
     0
 }

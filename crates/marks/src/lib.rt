@@ -10,8 +10,6 @@ use record::Record;
 pub fn mark_of(r: Record) -> usize
     ensures { result ≡ record_mark r }
 {
-    let indices = r.lsp;
-    let present = hertz::in_hertz(indices);
-    let hz = present.hz;
+    let hz = hertz::in_hertz(r.lsp).unwrap_or([0; 10]);
     lsp::order_mark(hz)
 }

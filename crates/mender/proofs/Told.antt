@@ -4,6 +4,7 @@ use mathlib.Core.Path.{◌≡◌, refl, sym, ap, ◌∙◌}
 use mathlib.Core.List.{List}
 use Prim.Native.Nat.{ℕ}
 use lib.IntN.{ℤ}
+use Rattle.std.specs.Prelude.{Result}
 use Rattle.verdicts.specs.Verdicts.{refused, minus_of}
 use Rattle.kept.specs.Planning.{number_of}
 use Rattle.kept.specs.declared.Unsalvaged.{Unsalvaged}
@@ -22,6 +23,6 @@ pub refused_by : (why : Unsalvaged) {n : ℕ} {r : ℤ} → n ≡ number_of why 
 refused_by why i j = j ∙ ap minus_of i ∙ minus_number why
 
 -- by the answer, and the case that it is
-pub came_to : (long : ℕ) (o : List ℕ) {answer is case : Salvaged} → answer ≡ is → answer ≡ case
+pub came_to : (long : ℕ) (o : List ℕ) {answer is case : Result Salvaged Unsalvaged} → answer ≡ is → answer ≡ case
     → (salvage_result case ≡ salvage_result is) × (changes_left case long o ≡ changes_left is long o)
-came_to long o i j = (ap salvage_result (sym j ∙ i), ap (λ (x : Salvaged). changes_left x long o) (sym j ∙ i))
+came_to long o i j = (ap salvage_result (sym j ∙ i), ap (λ (x : Result Salvaged Unsalvaged). changes_left x long o) (sym j ∙ i))

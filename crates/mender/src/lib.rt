@@ -14,13 +14,12 @@ pub fn oatlantern_salvage(recording: &[u8], out: &mut [u8], changes: &mut [usize
     ensures out_after { out.new ≡ buffer_of recording.now out.old }
     ensures changes_after { changes.new ≡ changes_left (salvage_of recording.now (length out.old)) (length recording.now) changes.old }
 {
-    let salvaged = restorer::salvage(recording, out);
-    match salvaged {
-        Salvaged::Sound => {
+    match restorer::salvage(recording, out) {
+        Ok(Salvaged::Sound) => {
             *changes = [0, 0, 0, 0, recording.len()];
             0
         }
-        Salvaged::Mended(made) => {
+        Ok(Salvaged::Mended(made)) => {
             *changes = [
                 made.dropped,
                 made.from,
@@ -30,6 +29,6 @@ pub fn oatlantern_salvage(recording: &[u8], out: &mut [u8], changes: &mut [usize
             ];
             1
         }
-        Salvaged::Refused(why) => verdicts::minus(why.refusal_number()),
+        Err(why) => verdicts::minus(why.refusal_number()),
     }
 }

@@ -17,22 +17,6 @@ use Rattle.mixing.specs.Mixing.{sum_of, whole_of, element_of}
 pub product_most : (x y : ℤ) (m n : ℕ) → nat_abs x ≤ m → nat_abs y ≤ n → nat_abs (x *ℤ y) ≤ m * n
 product_most x y m n h l = subst (λ (k : ℕ). k ≤ m * n) (sym (size_product x y)) (mul-le-mul h l)
 
-module _ {a b : ℤ} (f : SFits w32 a) (g : SFits w32 b) where
-  -- the two factors as the code holds them
-  factors : held w64 (held w32 a) *ℤ held w64 (held w32 b) ≡ a *ℤ b
-  factors = ap₂ ◌*ℤ◌ (cast_is w64 f tt) (cast_is w64 g tt)
-
-  -- their product fits
-  exact : SFits w64 (a *ℤ b)
-  exact = fits_size w64 (omega (arith, product_most a b (2 ^ 31) (2 ^ 31) (size_fits w32 f) (size_fits w32 g)))
-
-  pub product_fits : SFits w64 (held w64 (held w32 a) *ℤ held w64 (held w32 b))
-  product_fits = subst (SFits w64) (sym factors) exact
-
-  -- and is what is held
-  pub product_is : held w64 (held w64 (held w32 a) *ℤ held w64 (held w32 b)) ≡ a *ℤ b
-  product_is = to_z-of_z product_fits ∙ factors
-
 -- what the code makes of CG, the ternary element, PG and the adaptive element, from the two products
 module _ {cg ternary pg adaptive : ℤ} (f : SFits w32 cg) (g : SFits w8 ternary) (h : SFits w32 pg)
     (i : SFits w32 adaptive) {code past : ℤ} (one : code ≡ held w32 cg *ℤ held w32 (held w8 ternary))

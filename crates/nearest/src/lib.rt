@@ -25,15 +25,11 @@ fn nearest(table: &[i16], x: i32) -> u16
     requires table_len_bound { length table.now ≤ 65536 }
     ensures { result ≡ nearest_of table.now x }
 {
-    let mut i = table.len() - 1;
-    let last = table[i];
-    let mut best = i;
-    let mut near = distance(x, last);
-    while 0 < i {
-        i -= 1;
-        let entry = table[i];
-        let d = distance(x, entry);
-        if d <= near {
+    let mut best = 0;
+    let mut near = distance(x, table[0]);
+    for (i, entry) in table.iter().enumerate() {
+        let d = distance(x, *entry);
+        if d < near {
             best = i;
             near = d;
         }
@@ -41,14 +37,9 @@ fn nearest(table: &[i16], x: i32) -> u16
     best as u16
 }
 
-// How far x is from an entry. At 64 bits the difference of any two such numbers fits.
-fn distance(x: i32, entry: i16) -> u64
+// How far x is from an entry. At 32 bits without a sign any such distance fits.
+fn distance(x: i32, entry: i16) -> u32
     ensures { result ≡ apart x entry }
 {
-    let difference = x as i64 - entry as i64;
-    if difference < 0 {
-        let turned = 0 - difference;
-        return turned as u64;
-    }
-    difference as u64
+    x.abs_diff(i32::from(entry))
 }

@@ -17,10 +17,8 @@ pub fn frame_of(r: Record) -> [u8; 18]
     fields[0] = parity::number_of(fields) as u16;
     let table = frame::table();
     let mut frame = [0u8; 18];
-    let mut k = 0;
-    while k < 18 {
-        frame[k] = byte_at(&fields, &table, k);
-        k += 1;
+    for (k, byte) in frame.iter_mut().enumerate() {
+        *byte = byte_at(&fields, &table, k);
     }
     frame
 }
@@ -29,13 +27,8 @@ pub fn frame_of(r: Record) -> [u8; 18]
 fn to_fields(r: Record) -> [u16; 29]
     ensures { result ≡ fields_of r }
 {
-    let indices = r.by_field();
     let mut fields = [0u16; 29];
-    let mut k = 0;
-    while k < 28 {
-        fields[k + 1] = indices[k];
-        k += 1;
-    }
+    fields[1..].copy_from_slice(&r.by_field());
     fields
 }
 
@@ -48,12 +41,10 @@ fn byte_at(fields: &[u16], table: &[u16], k: usize) -> u8
 {
     let from = 8 * k;
     let mut x: u16 = 0;
-    let mut q = 0;
-    while q < 8 {
+    for q in 0..8 {
         let entry = table[from + q];
         let f = (entry / 16) as usize;
         x = x * 2 + (fields[f] >> (entry % 16)) % 2;
-        q += 1;
     }
     x as u8
 }

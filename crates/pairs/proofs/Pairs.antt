@@ -1,17 +1,38 @@
 -- The loops of `put_all` and `take_all`: pair after pair, in field order.
 -- Assumes nothing.
-use mathlib.Core.Path.{◌≡◌, ◌∙◌, sym, ap}
-use mathlib.Core.List.{List}
-use Prim.Native.Nat.{ℕ, ◌+◌, ◌-◌, ◌*◌, ◌/◌, ◌%◌, ◌<◌, ◌≤◌}
+use mathlib.Core.Path.{◌≡◌, ◌∙◌, sym, refl, ap}
+use mathlib.Core.List.{List, [], ◌∷◌}
+use Prim.Native.Nat.{ℕ, zero, suc, ◌^◌, ◌+◌, ◌-◌, ◌*◌, ◌/◌, ◌%◌, ◌<◌, ◌≤◌}
 use native.Mathlib.Omega.{arith}
 use borrow.Author.Tests.{eq-eqb, ne_eqb}
-use lib.ListN.{get_or, set}
+use borrow.Rule.Slice.PartMut.{put_mid}
+use lib.ListN.{length, get_or, set}
+use Rattle.std.specs.Int.{w16, to_le_bytes}
 use Rattle.laws.specs.Bytes.{pair_at}
 use Rattle.laws.specs.Tabulate.{tabulate}
 use Rattle.laws.proofs.Filled.{Filled, filled_fewer, filled_more, filled_done}
 use Rattle.record.specs.Fields.{indices_of}
 use Rattle.record.specs.declared.Record.{Record}
 use Rattle.pairs.specs.Pairs.{with_pair, pair_byte, bytes_of, pair_in, record_in}
+
+-- two bytes laid over a buffer are two stores, one after the other
+pub pair_laid : (o : List ℕ) (at x y : ℕ) → at + 1 < length o
+    → put_mid at 2 o (x ∷ y ∷ []) ≡ set (set o at x) (at + 1) y
+pair_laid [] at x y h = absurd (omega arith)
+pair_laid (a ∷ []) zero x y h = absurd (omega arith)
+pair_laid (a ∷ b ∷ o) zero x y h = refl
+pair_laid (a ∷ o) (suc at) x y h =
+    let next : suc at + 1 ≡ suc (at + 1) = omega arith in
+    rw next (ap (λ (l : List ℕ). a ∷ l) (pair_laid o at x y (omega arith)))
+
+-- so an index laid as its two bytes is the pair
+pub index_laid : (o : List ℕ) (at : ℕ) {b : List ℕ} {k n : ℕ} → b ≡ to_le_bytes w16 n → n < 2 ^ 16 → k ≡ 2 → at + 1 < length o
+    → put_mid at k o b ≡ with_pair o at n
+index_laid o at {b} {k} {n} is small two h =
+    rw (two, is) (pair_laid o at (n % 256) (n / 256 % 256) h ∙ ap (set (set o at (n % 256)) (at + 1)) upper)
+  where
+    upper : n / 256 % 256 ≡ n / 256
+    upper = omega arith
 
 module _ (l : List ℕ) where
   -- the two bytes of a pair

@@ -1,17 +1,16 @@
 -- What is put and taken, by the length of the bytes.
 -- Assumes nothing.
 use mathlib.Core.Path.{◌≡◌, ◌∙◌, sym, ap, refl}
-use mathlib.Core.Bool.{Bool, true, false, true≢false}
+use mathlib.Core.Bool.{Bool, true, false}
 use mathlib.Core.List.{List}
+use Rattle.std.specs.Prelude.{None, Some}
 use Prim.Native.Nat.{ℕ}
 use native.Mathlib.Decide.{ℕ_discrete}
 use borrow.Author.Tests.{eq-eqb, ne_eqb, eqb-true, eqb-false}
 use lib.Dec.{eqb}
-use lib.ListN.{length, replicate}
-use Rattle.laws.specs.Tabulate.{tabulate_from}
+use lib.ListN.{length}
 use Rattle.record.specs.declared.Record.{Record}
 use Rattle.pairs.specs.Pairs.{bytes_of, bytes_left, record_in, taken_of}
-use Rattle.pairs.specs.declared.Taken.{Taken}
 
 -- the answer of `put`, and what the buffer then holds
 abbrev pub Puts : Record → List ℕ → Bool → List ℕ → Type 0
@@ -44,28 +43,21 @@ module _ (r : Record) (o : List ℕ) where
 
 module _ (s : List ℕ) where
   -- the returns of `take`
-  pub not_taken : (length s ≡ 56 → ⊥)
-      → record {
-        whole = false;
-        indices = record { lsp = replicate 10 0; subframes = replicate 16 0; sp = 0; sy = 0 };
-      } ≡ taken_of s
-  unfolding taken_of tabulate_from
-  not_taken w = rw (ne_eqb (length s) 56 w) refl
-
-  pub all_taken : length s ≡ 56 → {r : Record} → r ≡ record_in s → record { whole = true; indices = r } ≡ taken_of s
+  pub not_taken : (length s ≡ 56 → ⊥) → None ≡ taken_of s
   unfolding taken_of
-  all_taken e is = rw (eq-eqb (length s) 56 e) (λ i. record { whole = true; indices = is i })
+  not_taken w = rw (ne_eqb (length s) 56 w)
+
+  pub all_taken : length s ≡ 56 → {r : Record} → r ≡ record_in s → Some r ≡ taken_of s
+  unfolding taken_of
+  all_taken e is = rw (eq-eqb (length s) 56 e) (ap Some is)
 
   -- for who asked: the record in 56 bytes, or not 56 bytes
-  pub was_taken : {t : Taken} → t ≡ taken_of s → t.whole ≡ true → (length s ≡ 56) × (t.indices ≡ record_in s)
-  unfolding taken_of
-  was_taken {t} is e = go (ℕ_discrete (length s) 56)
+  pub was_taken : {r : Record} → Some r ≡ taken_of s → (length s ≡ 56) × (r ≡ record_in s)
+  was_taken {r} is = go (ℕ_discrete (length s) 56)
     where
-      go : Dec (length s ≡ 56) → (length s ≡ 56) × (t.indices ≡ record_in s)
-      go (yes long) = (long, ap (λ (x : Taken). x.indices) is ∙ rw (eq-eqb (length s) 56 long) refl)
-      go (no w) = absurd (true≢false (sym e ∙ ap (λ (x : Taken). x.whole) is ∙ rw (ne_eqb (length s) 56 w) refl))
+      go : Dec (length s ≡ 56) → (length s ≡ 56) × (r ≡ record_in s)
+      go (yes long) = (long, let whole : Some (record_in s) ≡ taken_of s = all_taken long refl in cc)
+      go (no w) = absurd (let none : None ≡ taken_of s = not_taken w in cc)
 
-  pub was_wrong : {t : Taken} → t ≡ taken_of s → t.whole ≡ false → length s ≡ 56 → ⊥
-  unfolding taken_of
-  was_wrong {t} is e long =
-      true≢false (sym (ap (λ (x : Taken). x.whole) is ∙ rw (eq-eqb (length s) 56 long) refl) ∙ e)
+  pub was_wrong : None ≡ taken_of s → length s ≡ 56 → ⊥
+  was_wrong is long = let whole : Some (record_in s) ≡ taken_of s = all_taken long refl in cc

@@ -1,10 +1,9 @@
 -- The C record (document 01, "What the work covers"): 28 byte pairs, 16 bits each, little-endian, in field order.
-use Rattle.std.specs.Prelude.{true, false, cond, List, ℕ, ◌+◌, ◌-◌, ◌*◌, ◌/◌, ◌%◌, eqb, length, get_or, set}
+use Rattle.std.specs.Prelude.{cond, List, ℕ, ◌+◌, ◌-◌, ◌*◌, ◌/◌, ◌%◌, eqb, length, Option, None, Some, get_or, set}
 use Rattle.laws.specs.Bytes.{pair_at}
 use Rattle.laws.specs.Tabulate.{tabulate}
 use Rattle.record.specs.Fields.{indices_of, record_with}
 use Rattle.record.specs.declared.Record.{Record}
-use Rattle.pairs.specs.declared.Taken.{Taken}
 
 -- a list with an index put into the two bytes from i on, the lower half first
 abbrev pub with_pair : List ℕ → ℕ → ℕ → List ℕ
@@ -30,8 +29,6 @@ pair_in s f = pair_at s (2 * (f - 1))
 unfoldable pub record_in : List ℕ → Record
 record_in s = record_with (pair_in s)
 
--- what is taken out of any bytes: of those that are not 56 nothing, and all indices are 0
-unfoldable pub taken_of : List ℕ → Taken
-taken_of s =
-    cond (eqb (length s) 56) (record { whole = true; indices = record_in s })
-    (record { whole = false; indices = record_with (λ i. 0) })
+-- what is taken out of any bytes: of those that are not 56 nothing
+unfoldable pub taken_of : List ℕ → Option Record
+taken_of s = cond (eqb (length s) 56) (Some (record_in s)) None

@@ -7,13 +7,6 @@ ghost use Rattle.pairs.specs.Pairs.{with_pair, bytes_of, bytes_left, record_in, 
 
 use record::Record;
 
-// The record in some bytes, and whether they are whole: of bytes that are not 56 no index is taken, and all are 0.
-#[derive(Clone, Copy)]
-pub struct Taken {
-    pub whole: bool,
-    pub indices: Record,
-}
-
 // Puts a record into a buffer of 56 bytes, and answers whether it did: any other buffer stays as it was.
 pub fn put(r: Record, out: &mut [u8]) -> bool
     ensures value { result ≡ eqb (length out.old) 56 }
@@ -26,25 +19,14 @@ pub fn put(r: Record, out: &mut [u8]) -> bool
     true
 }
 
-// Takes the record out of 56 bytes.
-pub fn take(bytes: &[u8]) -> Taken
+// Takes the record out of 56 bytes; out of any others none.
+pub fn take(bytes: &[u8]) -> Option<Record>
     ensures { result ≡ taken_of bytes.now }
 {
     if bytes.len() != 56 {
-        return Taken {
-            whole: false,
-            indices: Record {
-                lsp: [0; 10],
-                subframes: [0; 16],
-                sp: 0,
-                sy: 0,
-            },
-        };
+        return None;
     }
-    Taken {
-        whole: true,
-        indices: take_all(bytes),
-    }
+    Some(take_all(bytes))
 }
 
 // Puts pair after pair.
@@ -53,10 +35,8 @@ fn put_all(r: Record, out: &mut [u8])
     ensures { out.new ≡ bytes_of r }
 {
     let indices = r.by_field();
-    let mut k = 0;
-    while k < 28 {
-        put_pair(indices[k], out, 2 * k);
-        k += 1;
+    for (k, index) in indices.iter().enumerate() {
+        put_pair(*index, out, 2 * k);
     }
 }
 
@@ -65,8 +45,7 @@ fn put_pair(index: u16, out: &mut [u8], at: usize)
     requires { at + 1 < length out.old }
     ensures { out.new ≡ with_pair out.old at index }
 {
-    out[at] = (index % 256) as u8;
-    out[at + 1] = (index / 256) as u8;
+    out[at..at + 2].copy_from_slice(&index.to_le_bytes());
 }
 
 // Takes pair after pair.
@@ -75,16 +54,12 @@ fn take_all(bytes: &[u8]) -> Record
     ensures { result ≡ record_in bytes.now }
 {
     let mut lsp = [0u16; 10];
-    let mut k = 0;
-    while k < 10 {
-        lsp[k] = take_pair(bytes, 2 * k);
-        k += 1;
+    for (k, index) in lsp.iter_mut().enumerate() {
+        *index = take_pair(bytes, 2 * k);
     }
     let mut subframes = [0u16; 16];
-    let mut n = 0;
-    while n < 16 {
-        subframes[n] = take_pair(bytes, 20 + 2 * n);
-        n += 1;
+    for (n, index) in subframes.iter_mut().enumerate() {
+        *index = take_pair(bytes, 20 + 2 * n);
     }
     Record {
         lsp,
@@ -99,7 +74,5 @@ fn take_pair(bytes: &[u8], at: usize) -> u16
     requires { at + 1 < length bytes.now }
     ensures { result ≡ pair_at bytes.now at }
 {
-    let low = bytes[at];
-    let high = bytes[at + 1];
-    low as u16 + 256 * high as u16
+    u16::from_le_bytes([bytes[at], bytes[at + 1]])
 }

@@ -29,13 +29,10 @@ pub fn number_of(fields: [u16; 29]) -> usize
 {
     let guarded = guarded();
     let mut number = 0;
-    let mut n = 0;
-    while n < 15 {
-        let entry = guarded[n];
-        let f = (entry / 16) as usize;
-        let x = ((fields[f] >> (entry % 16)) % 2) as usize;
-        n += 1;
-        number = number ^ (n * x);
+    for (n, entry) in guarded.iter().enumerate() {
+        let f = (*entry / 16) as usize;
+        let x = ((fields[f] >> (*entry % 16)) % 2) as usize;
+        number ^= (n + 1) * x;
     }
     number
 }
@@ -60,7 +57,8 @@ pub fn correction_of(number: usize) -> Correction
     Correction::Data(field, bit)
 }
 
-// The correction number of any case; 0 for a data bit that is none of the eleven.
+// The correction number of any case; 0 for a data bit that is none of the eleven. It is a number with 0 for none in the interface for
+// C, and in `CaseOfEach`.
 pub fn number_for(correction: Correction) -> usize
     ensures { result ≡ number_of_case correction }
 {
@@ -79,14 +77,9 @@ fn data_number(f: usize, i: usize) -> usize
         return 0;
     }
     let guarded = guarded();
-    let mut k = 0;
-    while k < 15 {
-        let entry = guarded[k];
-        k += 1;
-        if (entry / 16) as usize == f {
-            if (entry % 16) as usize == i {
-                return k;
-            }
+    for (k, entry) in guarded.iter().enumerate() {
+        if (*entry / 16) as usize == f && (*entry % 16) as usize == i {
+            return k + 1;
         }
     }
     0

@@ -12,7 +12,7 @@ use Rattle.laws.specs.Total.{total}
 use Rattle.frame.specs.Answers.{reading_of}
 use Rattle.frame.specs.declared.Correction.{Correction}
 use Rattle.frame.specs.declared.Correction.TheVariants.{Clean, Parity, Data}
-use Rattle.values.specs.declared.LastSy.TheVariants.{Was}
+use Rattle.std.specs.Prelude.{Some}
 use Rattle.values.specs.declared.State.{State}
 use Rattle.passes.specs.Counted.{repair_of, repair_by, breaks_at, break_of, counting_of, counting, frame_at}
 use Rattle.passes.specs.Counted.{last_before, break_at, counts_to}
@@ -59,10 +59,10 @@ module _ (before : State) (frames : List (List ℕ)) where
 
   -- behind frame n its SY is the last
   pub last_behind : (n m : ℕ) → 1 ≤ n → m ≡ n + 1 → last_before before frames m
-      ≡ Was (reading_of (frame_at frames n)).indices.sy
+      ≡ Some (reading_of (frame_at frames n)).indices.sy
   last_behind n m h e =
       let k : m - 1 ≡ n = omega arith in
-      rw (ne_eqb m 1 (λ o. omega arith)) (ap (λ (i : ℕ). Was (reading_of (frame_at frames i)).indices.sy) k)
+      rw (ne_eqb m 1 (λ o. omega arith)) (ap (λ (i : ℕ). Some (reading_of (frame_at frames i)).indices.sy) k)
 
   -- the counts of one frame more, after the last SY before it
   pub counts_more : (k : ℕ)

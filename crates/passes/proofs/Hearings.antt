@@ -10,7 +10,7 @@ use Rattle.frame.specs.Answers.{reading_of}
 use Rattle.frame.specs.declared.Reading.{Reading}
 use Rattle.frame.proofs.Readings.{reading_range}
 use Rattle.values.specs.Values.{values_of}
-use Rattle.values.specs.declared.LastSy.TheVariants.{Was}
+use Rattle.std.specs.Prelude.{Some}
 use Rattle.values.specs.declared.State.{State}
 use Rattle.values.specs.declared.Values.{Values}
 use Rattle.values.proofs.Laws.{sync_kept}
@@ -34,7 +34,7 @@ through_more before [] f = refl
 through_more before (g ∷ fs) f = through_more (hearing_of before g).values.state fs f
 
 -- after any frame the last SY is the one that is read in it
-last_heard : (before : State) (f : List ℕ) → (hearing_of before f).values.state.last ≡ Was (reading_of f).indices.sy
+last_heard : (before : State) (f : List ℕ) → (hearing_of before f).values.state.last ≡ Some (reading_of f).indices.sy
 unfolding hearing_of
 last_heard before f = sync_kept (reading_of f).indices before (reading_range f).fits
 
@@ -59,7 +59,7 @@ module _ (before : State) (frames : List (List ℕ)) where
       let n : k ≡ suc k - 1 = omega arith in
       ap (λ (t : State). t.last) (through_next k (omega arith))
       ∙ last_heard (state_through before (take k frames)) (get_or frames k [])
-      ∙ ap (λ (i : ℕ). Was (reading_of (get_or frames i [])).indices.sy) n
+      ∙ ap (λ (i : ℕ). Some (reading_of (get_or frames i [])).indices.sy) n
       ∙ sym (last_behind before frames (suc k) (suc k + 1) (omega arith) refl)
 
   -- frame k + 1 where there is one

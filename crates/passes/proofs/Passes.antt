@@ -12,11 +12,12 @@ use lib.Dec.{leb}
 use lib.ListN.{length, get_or, take, drop, drop_of_length-le}
 use lib.Seq.{drop-cons, take_all}
 use Rattle.laws.specs.Table.{both}
+use Rattle.std.specs.Prelude.{Option, Some, None, Ok, Err}
 use Rattle.frame.specs.Answers.{reading_of}
 use Rattle.frame.specs.declared.Correction.{Correction}
 use Rattle.frame.specs.declared.Reading.{Reading}
 use Rattle.values.specs.Values.{nothing_heard}
-use Rattle.values.specs.declared.LastSy.{LastSy}
+use Rattle.std.specs.Prelude.{Option}
 use Rattle.values.specs.declared.State.{State}
 use Rattle.values.specs.declared.Values.{Values}
 use Rattle.blocks.specs.Blocks.{part}
@@ -24,11 +25,10 @@ use Rattle.blocks.specs.Walk.{longest, walked_of}
 use Rattle.blocks.specs.Frames.{if_sound, frames_of, found_at, frames_from}
 use Rattle.blocks.specs.declared.Cause.{Cause}
 use Rattle.blocks.specs.declared.Cause.TheVariants.{EndMissing}
-use Rattle.blocks.specs.declared.Ending.{Ending}
+use Rattle.blocks.specs.Walk.{Ending}
 use Rattle.blocks.specs.declared.Walk.{Walk}
 use Rattle.blocks.specs.declared.Walked.{Walked}
 use Rattle.blocks.specs.declared.Found.{Found}
-use Rattle.blocks.specs.declared.Found.TheVariants.{At, Nothing}
 use Rattle.blocks.proofs.Blocks.{nothing_left}
 use Rattle.blocks.proofs.Voices.{broken_no_voice}
 use Rattle.blocks.proofs.Walks.{sound_short}
@@ -55,22 +55,22 @@ module _ (s : List ℕ) (before : State) {w : Walked} (is : w ≡ walked_of s) {
       ∙ ap (λ (x : Walked). begun_at (if_sound x.ending x.walk.voices (length s)) before) is
 
   -- the start of a sound recording is at its voice blocks
-  pub start_sound : w.ending ≡ Ending.Sound → p ≡ begun_at w.walk.voices before → p ≡ start_of before s
-  start_sound = started Ending.Sound
+  pub start_sound : w.ending ≡ Ok tt → p ≡ begun_at w.walk.voices before → p ≡ start_of before s
+  start_sound = started (Ok tt)
 
   -- that of a refused one is at its end
-  pub start_refused : {cause : Cause} → w.ending ≡ Ending.Refused cause → p ≡ begun_at (length s) before
+  pub start_refused : {cause : Cause} → w.ending ≡ Err cause → p ≡ begun_at (length s) before
       → p ≡ start_of before s
-  start_refused {cause} = started (Ending.Refused cause)
+  start_refused {cause} = started (Err cause)
 
   -- and so after its own state
-  pub start_own : w.ending ≡ Ending.Sound → p ≡ begun_at w.walk.voices before → p ≡ start_of p.state s
+  pub start_own : w.ending ≡ Ok tt → p ≡ begun_at w.walk.voices before → p ≡ start_of p.state s
   start_own ends begun = start_sound ends begun ∙ ap (λ (x : State). start_of x s)
       (sym (ap (λ (x : Pass). x.state) begun))
 
 -- a pass that begins from the walk of a sound recording
 pub start_walk : (s : List ℕ) {walk : Walk} {before : State} {p : Pass} → walk ≡ (walked_of s).walk
-    → (walked_of s).ending ≡ Ending.Sound
+    → (walked_of s).ending ≡ Ok tt
     → p ≡ begun_at walk.voices before → p ≡ start_of p.state s
 start_walk s {walk} {before} e ends begun =
     start_own s before refl ends (begun ∙ ap (λ (x : Walk). begun_at x.voices before) e)
@@ -78,18 +78,18 @@ start_walk s {walk} {before} e ends begun =
 -- of `steps::ahead`: nothing for a pass that was not begun here
 module _ (s : List ℕ) (p : Pass) where
   -- a pass through too many frames is at its end
-  pub ahead_many : longest < p.frames → Nothing ≡ ahead_of s p
+  pub ahead_many : longest < p.frames → None ≡ ahead_of s p
   unfolding ahead_of
   ahead_many h = rw (lt-leb p.frames longest h)
 
   -- so is one that counted more repairs than frames
-  pub ahead_repaired : p.frames ≤ longest → p.frames < p.counts.repaired → Nothing ≡ ahead_of s p
+  pub ahead_repaired : p.frames ≤ longest → p.frames < p.counts.repaired → None ≡ ahead_of s p
   unfolding ahead_of
   ahead_repaired m h = rw (le-leb p.frames longest m, lt-leb p.counts.repaired p.frames h)
 
   -- and one that counted more breaks than frames
   pub ahead_broken : p.frames ≤ longest → p.counts.repaired ≤ p.frames → p.frames < p.counts.breaks
-      → Nothing ≡ ahead_of s p
+      → None ≡ ahead_of s p
   unfolding ahead_of
   ahead_broken m r h =
       rw (
@@ -110,24 +110,24 @@ module _ (s : List ℕ) (p : Pass) where
       )
 
   -- where a frame is ahead, the pass has room for one more, and the frame stands within the bytes
-  pub record Ahead (first rest : ℕ) : Type 0 where
+  pub record Ahead (next : Found) : Type 0 where
     pub most : p.frames ≤ longest
     pub few : p.counts.repaired ≤ p.frames
     pub seldom : p.counts.breaks ≤ p.frames
-    pub found : found_at s p.at p.left ≡ At first rest
+    pub found : found_at s p.at p.left ≡ Some next
 
   -- what is known of a pass that has a frame ahead
-  pub ahead_is : (first rest : ℕ) → ahead_of s p ≡ At first rest → Ahead first rest
+  pub ahead_is : (next : Found) → ahead_of s p ≡ Some next → Ahead next
   unfolding ahead_of
-  ahead_is first rest = go (leb p.frames longest) (leb p.counts.repaired p.frames)
+  ahead_is next = go (leb p.frames longest) (leb p.counts.repaired p.frames)
       (leb p.counts.breaks p.frames) refl refl refl
     where
-      never : Nothing ≡ At first rest → Ahead first rest
+      never : None ≡ Some next → Ahead next
       never e = absurd (let z : ◌≡◌ {A = ℕ} 0 1 = cc in omega arith)
 
       go : (a b c : Bool) → leb p.frames longest ≡ a → leb p.counts.repaired p.frames ≡ b
           → leb p.counts.breaks p.frames ≡ c
-          → cond (both a (both b c)) (found_at s p.at p.left) Nothing ≡ At first rest → Ahead first rest
+          → cond (both a (both b c)) (found_at s p.at p.left) None ≡ Some next → Ahead next
       go false b c x y z e = never e
       go true false c x y z e = never e
       go true true false x y z e = never e
@@ -159,18 +159,18 @@ stayed p read valued = λ i. record { hearing = record { reading = read i; value
 -- of `steps::hear`
 module _ (s : List ℕ) (p : Pass) where
   -- a step to a frame hears it and goes past it
-  pub went_past : (first rest : ℕ) {h : Hearing} {q : Pass}
-      → h ≡ hearing_of p.state (part s first (first + 18 - first))
-      → q ≡ past_frame p h (first + 18) rest → record { hearing = h; pass = q } ≡ step_by s p (At first rest)
-  went_past first rest {h} {q} e is =
-      let m : first + 18 - first ≡ 18 = omega arith in
-      let l : h ≡ hearing_of p.state (part s first 18) = e ∙ ap (λ (k : ℕ). hearing_of p.state (part s first k)) m
+  pub went_past : (found : Found) {h : Hearing} {q : Pass}
+      → h ≡ hearing_of p.state (part s found.first (found.first + 18 - found.first))
+      → q ≡ past_frame p h (found.first + 18) found.rest → record { hearing = h; pass = q } ≡ step_by s p (Some found)
+  went_past found {h} {q} e is =
+      let m : found.first + 18 - found.first ≡ 18 = omega arith in
+      let l : h ≡ hearing_of p.state (part s found.first 18) = e ∙ ap (λ (k : ℕ). hearing_of p.state (part s found.first k)) m
       in
       (λ i. record { hearing = h; pass = is i })
-      ∙ ap (λ (x : Hearing). record { hearing = x; pass = past_frame p x (first + 18) rest }) l
+      ∙ ap (λ (x : Hearing). record { hearing = x; pass = past_frame p x (found.first + 18) found.rest }) l
 
   -- of `next`
-  pub next_by : {f g : Found} → f ≡ ahead_of s p → f ≡ g → step_by s p g ≡ next_of s p
+  pub next_by : {f g : Option Found} → f ≡ ahead_of s p → f ≡ g → step_by s p g ≡ next_of s p
   unfolding next_of
   next_by e is = ap (step_by s p) (sym is ∙ e)
 
@@ -181,33 +181,33 @@ pub frames_few : (s : List ℕ) (n at left : ℕ) → length s - at < n → 18 *
 frames_few s zero at left h = absurd (omega arith)
 frames_few s (suc n) at left h = go (found_at s at left) refl (frames_few s n)
   where
-    go : (f : Found) → found_at s at left ≡ f
+    go : (f : Option Found) → found_at s at left ≡ f
         → ((at left : ℕ) → length s - at < n → 18 * length (frames_from s at left) ≤ length s - at)
         → 18 * length (frames_from s at left) ≤ length s - at
-    go (At first rest) e more =
-        let w = found_within s at left first rest e in
-        let l : length s - (first + 18) < n = omega (arith, w.on, w.fits) in
-        let m = more (first + 18) rest l in
-        rw (frames_more s at left first rest e) (omega (arith, w.on, w.fits))
-    go Nothing e more = rw (frames_none s at left e) (omega arith)
+    go (Some found) e more =
+        let w = found_within s at left found e in
+        let l : length s - (found.first + 18) < n = omega (arith, w.on, w.fits) in
+        let m = more (found.first + 18) found.rest l in
+        rw (frames_more s at left found e) (omega (arith, w.on, w.fits))
+    go None e more = rw (frames_none s at left e) (omega arith)
 
 -- all frames are within the bytes
 pub frames_fit : (s : List ℕ) → 18 * length (frames_of s) ≤ length s
 frames_fit s = go (walked_of s).ending refl
   where
     go : (e : Ending) → (walked_of s).ending ≡ e → 18 * length (frames_of s) ≤ length s
-    go Ending.Sound e =
+    go (Ok _) e =
         let few = frames_few s (suc (length s)) (walked_of s).walk.voices 0 (omega arith) in
         rw (frames_sound s e) (omega arith)
-    go (Ending.Refused cause) e = rw (frames_refused s cause e) (omega arith)
+    go (Err cause) e = rw (frames_refused s cause e) (omega arith)
 
 -- so a recording has at most 3,640
 pub frames_most : (s : List ℕ) → length (frames_of s) ≤ 3640
 frames_most s = go (walked_of s).ending refl
   where
     go : (e : Ending) → (walked_of s).ending ≡ e → length (frames_of s) ≤ 3640
-    go Ending.Sound e = let short = sound_short s e in let fit = frames_fit s in omega arith
-    go (Ending.Refused cause) e = rw (frames_refused s cause e) (omega arith)
+    go (Ok _) e = let short = sound_short s e in let fit = frames_fit s in omega arith
+    go (Err cause) e = rw (frames_refused s cause e) (omega arith)
 
 -- ---- the law
 
@@ -262,8 +262,8 @@ passing_start before s = go (walked_of s).ending refl
 
     go : (e : Ending) → (walked_of s).ending ≡ e
         → Passing before s (begun_at (if_sound e (walked_of s).walk.voices (length s)) before)
-    go Ending.Sound e = begun (walked_of s).walk.voices (sym (frames_sound s e))
-    go (Ending.Refused cause) e =
+    go (Ok _) e = begun (walked_of s).walk.voices (sym (frames_sound s e))
+    go (Err cause) e =
         let z = broken_no_voice s (length s) (EndMissing (length s)) (sym (nothing_left s (length s) (omega arith))) in
         begun (length s) (frames_none s (length s) 0 (sym (no_voice s (length s) 0 0 refl z refl))
         ∙ sym (frames_refused s cause e))
@@ -285,22 +285,22 @@ module _ (before : State) (s : List ℕ) (p : Pass) (q : Passing before s p) whe
       let b : p.counts.breaks ≤ p.frames = rw q.counts (breaks_few before (frames_of s) p.frames) in
       ahead_found s p (omega arith) r b
 
-  stepped : (f : Found) → found_at s p.at p.left ≡ f → Stepping before s p (step_by s p f)
+  stepped : (f : Option Found) → found_at s p.at p.left ≡ f → Stepping before s p (step_by s p f)
   unfolding hearing_of
-  stepped (At first rest) e = past l.0 heard (record
+  stepped (Some found) e = past l.0 heard (record
       { rest = rest'; most = most'; counts = counts'; state = state' }) (add-one p.frames)
     where
-      l : (p.frames < length (frames_of s)) × (part s first 18 ≡ get_or (frames_of s) p.frames [])
-          × (frames_from s (first + 18) rest ≡ drop (suc p.frames) (frames_of s))
+      l : (p.frames < length (frames_of s)) × (part s found.first 18 ≡ get_or (frames_of s) p.frames [])
+          × (frames_from s (found.first + 18) found.rest ≡ drop (suc p.frames) (frames_of s))
       l =
-          left_some [] (frames_of s) p.frames (part s first 18) (frames_from s (first + 18) rest)
-          (sym (frames_more s p.at p.left first rest e) ∙ q.rest)
+          left_some [] (frames_of s) p.frames (part s found.first 18) (frames_from s (found.first + 18) found.rest)
+          (sym (frames_more s p.at p.left found e) ∙ q.rest)
 
-      heard : hearing_of p.state (part s first 18)
+      heard : hearing_of p.state (part s found.first 18)
           ≡ hearing_of (state_through before (take p.frames (frames_of s))) (get_or (frames_of s) p.frames [])
       heard = ap₂ hearing_of q.state l.1
 
-      rest' : frames_from s (first + 18) rest ≡ drop (p.frames + 1) (frames_of s)
+      rest' : frames_from s (found.first + 18) found.rest ≡ drop (p.frames + 1) (frames_of s)
       rest' = rw add-one l.2
 
       most' : p.frames + 1 ≤ length (frames_of s)
@@ -309,22 +309,22 @@ module _ (before : State) (s : List ℕ) (p : Pass) (q : Passing before s p) whe
       last : p.state.last ≡ last_before before (frames_of s) (p.frames + 1)
       last = ap (λ (t : State). t.last) q.state ∙ through_last before (frames_of s) p.frames q.most
 
-      counts' : counting p.counts p.state.last (hearing_of p.state (part s first 18)).reading
+      counts' : counting p.counts p.state.last (hearing_of p.state (part s found.first 18)).reading
           ≡ counts_to before (frames_of s) (p.frames + 1)
       counts' =
           let n : p.frames + 1 - 1 ≡ p.frames = omega arith in
           ap₂ (λ (c : Counts) (f : List ℕ). counting c p.state.last (reading_of f)) q.counts
           (l.1 ∙ ap (λ (k : ℕ). get_or (frames_of s) k []) (sym n))
-          ∙ ap (λ (t : LastSy). counting (counts_to before (frames_of s) p.frames) t
+          ∙ ap (λ (t : Option ℕ). counting (counts_to before (frames_of s) p.frames) t
           (reading_of (frame_at (frames_of s) (p.frames + 1)))) last
           ∙ counts_more before (frames_of s) p.frames
 
-      state' : (hearing_of p.state (part s first 18)).values.state
+      state' : (hearing_of p.state (part s found.first 18)).values.state
           ≡ state_through before (take (p.frames + 1) (frames_of s))
       state' =
           ap (λ (h : Hearing). h.values.state) heard ∙ sym (through_next before (frames_of s) p.frames l.0)
           ∙ ap (λ (k : ℕ). state_through before (take k (frames_of s))) (sym (add-one p.frames))
-  stepped Nothing e =
+  stepped None e =
       let n = left_none [] (frames_of s) p.frames (sym (frames_none s p.at p.left e) ∙ q.rest) in
       let m : p.frames ≡ length (frames_of s) = omega (arith, q.most) in
       ended m (ap no_hearing (q.state ∙ ap (state_through before) (all m))) refl

@@ -7,10 +7,10 @@ use native.Mathlib.Omega.{arith}
 use native.Mathlib.Nat.{add-zero, add-suc}
 use native.Mathlib.Decide.{dec_lt}
 use lib.ListN.{length, take}
+use Rattle.std.specs.Prelude.{Ok}
 use Rattle.values.specs.declared.State.{State}
 use Rattle.blocks.specs.Walk.{walked_of}
 use Rattle.blocks.specs.Frames.{frames_of}
-use Rattle.blocks.specs.declared.Ending.TheVariants as Ending
 use Rattle.blocks.specs.declared.Walked.{Walked}
 use Rattle.passes.specs.Counted.{counts_to, counts_of}
 use Rattle.passes.specs.Pass.{state_through, frame_heard, start_of, next_of, pass_at}
@@ -170,46 +170,38 @@ module _ (before : State) (s : List ℕ) (k : ℕ) where
 
 -- ---- a loop of k steps
 
--- with so many steps ahead, the pass is the one after the others
-pub record Going (before : State) (s : List ℕ) (k : ℕ) (p : Pass) (ahead : ℕ) : Type 0 where
-  pub here : p ≡ pass_at before s (k - ahead)
-  pub upto : ahead ≤ k
+-- after n turns the pass is the one after n steps
+pub record Going (before : State) (s : List ℕ) (n : ℕ) (p : Pass) : Type 0 where
+  pub here : p ≡ pass_at before s n
 
--- before the first turn all k steps are ahead
-pub going_start : (before : State) (s : List ℕ) (k : ℕ) {p : Pass} → p ≡ start_of before s → Going before s k p k
+-- before the first turn none was made
+pub going_start : (before : State) (s : List ℕ) {p : Pass} → p ≡ start_of before s → Going before s 0 p
 unfolding pass_at
-going_start before s k is =
-    let z : k - k ≡ 0 = omega arith in
-    record { here = is ∙ ap (pass_at before s) (sym z); upto = omega arith }
+going_start before s is = record { here = is }
 
-module _ {before : State} {s : List ℕ} {k ahead : ℕ} {p : Pass} (g : Going before s k p ahead) where
-  -- a turn takes one of them
-  pub going_on : {t : Step} → t ≡ next_of s p → 0 < ahead → Going before s k t.pass (ahead - 1)
-  going_on is h =
-      let n : suc (k - ahead) ≡ k - (ahead - 1) = omega (arith, g.upto) in
+module _ {before : State} {s : List ℕ} {n : ℕ} {p : Pass} (g : Going before s n p) where
+  -- a turn makes one more
+  pub going_on : {t : Step} → t ≡ next_of s p → Going before s (n + 1) t.pass
+  going_on is =
+      let m : suc n ≡ n + 1 = omega arith in
       record {
         here =
-            ap (λ (t : Step). t.pass) is ∙ ap (λ (x : Pass). (next_of s x).pass) g.here ∙ pass_on before s (k - ahead)
-            ∙ ap (pass_at before s) n;
-        upto = omega (arith, g.upto);
+            ap (λ (t : Step). t.pass) is ∙ ap (λ (x : Pass). (next_of s x).pass) g.here ∙ pass_on before s n
+            ∙ ap (pass_at before s) m;
       }
 
   -- a step that passes no frame shows that it is at the end
-  pub going_stays : {t : Step} → t ≡ next_of s p → t.pass.frames ≡ p.frames → p ≡ pass_at before s k
-  going_stays is e =
-      let n : k - ahead + ahead ≡ k = omega (arith, g.upto) in
-      g.here ∙ pass_stays before s (k - ahead) (stays (k - ahead) g.here) ahead ∙ ap (pass_at before s) n
+  pub going_stays : {t : Step} {k : ℕ} → t ≡ next_of s p → t.pass.frames ≡ p.frames → n ≤ k → p ≡ pass_at before s k
+  going_stays {k = k} is e l =
+      let m : n + (k - n) ≡ k = omega arith in
+      g.here ∙ pass_stays before s n stays (k - n) ∙ ap (pass_at before s) m
     where
-      stays : (j : ℕ) → p ≡ pass_at before s j → (next_of s (pass_at before s j)).pass.frames ≡ (pass_at before s j).frames
-      stays j q = rw (sym q) (rw (sym is) e)
-
-  -- with none ahead the pass is the one after k steps
-  pub going_done : ahead ≤ 0 → p ≡ pass_at before s k
-  going_done h = let n : k - ahead ≡ k = omega arith in g.here ∙ ap (pass_at before s) n
+      stays : (next_of s (pass_at before s n)).pass.frames ≡ (pass_at before s n).frames
+      stays = rw (sym g.here) (rw (sym is) e)
 
 -- ---- a walk that was answered
 
 -- of a sound recording
-pub sound_walk : (s : List ℕ) {w : Walked} → w ≡ walked_of s → w.ending ≡ Ending.Sound
-    → (w.walk ≡ (walked_of s).walk) × ((walked_of s).ending ≡ Ending.Sound)
+pub sound_walk : (s : List ℕ) {w : Walked} → w ≡ walked_of s → w.ending ≡ Ok tt
+    → (w.walk ≡ (walked_of s).walk) × ((walked_of s).ending ≡ Ok tt)
 sound_walk s is ends = (ap (λ (x : Walked). x.walk) is, sym (ap (λ (x : Walked). x.ending) is) ∙ ends)

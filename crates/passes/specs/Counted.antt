@@ -1,13 +1,11 @@
 -- What is counted of the frames of a recording (document 01, "Recordings"; document 02, K4 and K5). Both counts include
 -- frames refused with 6.
-use Rattle.std.specs.Prelude.{cond, List, [], ℕ, ◌+◌, ◌-◌, eqb, length, get_or}
+use Rattle.std.specs.Prelude.{cond, List, [], ℕ, ◌+◌, ◌-◌, eqb, length, get_or, Option, None, Some}
 use Rattle.laws.specs.Total.{total}
 use Rattle.frame.specs.Answers.{reading_of}
 use Rattle.frame.specs.declared.Correction.{Correction}
 use Rattle.frame.specs.declared.Correction.TheVariants.{Clean, Parity, Data}
 use Rattle.frame.specs.declared.Reading.{Reading}
-use Rattle.values.specs.declared.LastSy.{LastSy}
-use Rattle.values.specs.declared.LastSy.TheVariants.{Never, Was}
 use Rattle.values.specs.declared.State.{State}
 use Rattle.passes.specs.declared.Counts.{Counts}
 
@@ -23,15 +21,15 @@ repair_by r = repair_of r.correction
 
 -- "A break is [..] a frame whose SY equals that of the frame before it, or a first frame whose SY is 1" (document 02,
 -- K4, in place of 01's rule by the frame's number): the SY at which the next frame is one
-abbrev pub breaks_at : LastSy → ℕ
-breaks_at Never = 1
-breaks_at (Was sy) = sy
+abbrev pub breaks_at : Option ℕ → ℕ
+breaks_at None = 1
+breaks_at (Some sy) = sy
 
 abbrev pub break_of : ℕ → ℕ → ℕ
 break_of sy at = cond (eqb sy at) 1 0
 
 -- a frame after the last SY
-abbrev pub break_by : LastSy → Reading → ℕ
+abbrev pub break_by : Option ℕ → Reading → ℕ
 break_by last r = break_of r.indices.sy (breaks_at last)
 
 -- counts with a frame counted too
@@ -39,7 +37,7 @@ abbrev pub counting_of : Counts → Correction → ℕ → ℕ → Counts
 counting_of c correction sy at =
     record { repaired = c.repaired + repair_of correction; breaks = c.breaks + break_of sy at }
 
-abbrev pub counting : Counts → LastSy → Reading → Counts
+abbrev pub counting : Counts → Option ℕ → Reading → Counts
 counting c last r = counting_of c r.correction r.indices.sy (breaks_at last)
 
 -- frame n of a list of frames
@@ -48,8 +46,8 @@ frame_at frames n = get_or frames (n - 1) []
 
 -- the last SY before frame n, counted from 1: that of the frame before it, refused with 6 or not; before the first,
 -- what the state says
-abbrev pub last_before : State → List (List ℕ) → ℕ → LastSy
-last_before before frames n = cond (eqb n 1) before.last (Was (reading_of (frame_at frames (n - 1))).indices.sy)
+abbrev pub last_before : State → List (List ℕ) → ℕ → Option ℕ
+last_before before frames n = cond (eqb n 1) before.last (Some (reading_of (frame_at frames (n - 1))).indices.sy)
 
 -- what frame n adds to the breaks
 abbrev pub break_at : State → List (List ℕ) → ℕ → ℕ

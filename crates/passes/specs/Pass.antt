@@ -1,6 +1,6 @@
 -- Going through the frames of a recording: what is heard of each, after the state that went through every frame before
 -- it, and what is counted on the way.
-use Rattle.std.specs.Prelude.{Bool, cond, List, [], ◌∷◌, ℕ, zero, suc, ◌+◌, leb, length, take, drop}
+use Rattle.std.specs.Prelude.{Option, Some, None, Bool, cond, List, [], ◌∷◌, ℕ, zero, suc, ◌+◌, leb, length, take, drop}
 use Rattle.laws.specs.Table.{both}
 use Rattle.frame.specs.Answers.{reading_of}
 use Rattle.values.specs.Values.{nothing_heard, values_of}
@@ -9,7 +9,6 @@ use Rattle.blocks.specs.Blocks.{part}
 use Rattle.blocks.specs.Walk.{longest, walked_of}
 use Rattle.blocks.specs.Frames.{if_sound, found_at}
 use Rattle.blocks.specs.declared.Found.{Found}
-use Rattle.blocks.specs.declared.Found.TheVariants.{At, Nothing}
 use Rattle.passes.specs.Counted.{counting}
 use Rattle.passes.specs.declared.Hearing.{Hearing}
 use Rattle.passes.specs.declared.Pass.{Pass}
@@ -63,8 +62,8 @@ begun_here p = both (leb p.frames longest) (both (leb p.counts.repaired p.frames
     (leb p.counts.breaks p.frames))
 
 -- where its next frame stands; any other pass is at its end
-unfoldable pub ahead_of : List ℕ → Pass → Found
-ahead_of s p = cond (begun_here p) (found_at s p.at p.left) Nothing
+unfoldable pub ahead_of : List ℕ → Pass → Option Found
+ahead_of s p = cond (begun_here p) (found_at s p.at p.left) None
 
 -- past a frame that was heard, to the place after it
 abbrev pub past_frame : Pass → Hearing → ℕ → ℕ → Pass
@@ -78,13 +77,13 @@ past_frame p h end left =
     }
 
 -- one frame further
-abbrev pub step_by : List ℕ → Pass → Found → Step
-step_by s p (At first rest) =
+abbrev pub step_by : List ℕ → Pass → Option Found → Step
+step_by s p (Some found) =
     record {
-      hearing = hearing_of p.state (part s first 18);
-      pass = past_frame p (hearing_of p.state (part s first 18)) (first + 18) rest;
+      hearing = hearing_of p.state (part s found.first 18);
+      pass = past_frame p (hearing_of p.state (part s found.first 18)) (found.first + 18) found.rest;
     }
-step_by s p Nothing = record { hearing = no_hearing p.state; pass = p }
+step_by s p None = record { hearing = no_hearing p.state; pass = p }
 
 unfoldable pub next_of : List ℕ → Pass → Step
 next_of s p = step_by s p (ahead_of s p)

@@ -6,7 +6,7 @@
 ghost use Rattle.std.specs.Prelude.{◌≡◌};
 ghost use Rattle.passes.specs.Pass.{begun_at, start_of};
 
-use blocks::{Ending, Walk};
+use blocks::Walk;
 use frame::Reading;
 use values::{State, Values};
 
@@ -47,10 +47,9 @@ pub fn start(s: &[u8], state: State) -> Pass
     ensures { result ≡ start_of state s.now }
 {
     let walked = walk::walk_through(s);
-    let ending = walked.ending;
-    match ending {
-        Ending::Sound => Pass::begun(walked.walk.voices, state),
-        Ending::Refused(_) => Pass::begun(s.len(), state),
+    match walked.ending {
+        Ok(()) => Pass::begun(walked.walk.voices, state),
+        Err(_) => Pass::begun(s.len(), state),
     }
 }
 

@@ -22,10 +22,11 @@ pub fn oatlantern_excite(
     ensures out_after { out.new ≡ excitation_left (holding past.old) delay pg ci cg out.old }
 {
     let elements = *past;
-    let excited = exciter::excite(Register { elements }, delay, pg, ci, cg, out);
-    let register = excited.register;
-    let after = register.elements;
-    *past = after;
-    let outcome = excited.outcome;
-    verdicts::minus(outcome.refusal_number())
+    let mut register = Register { elements };
+    let outcome = exciter::excite(&mut register, delay, pg, ci, cg, out);
+    *past = register.elements;
+    match outcome {
+        Ok(()) => 0,
+        Err(refusal) => verdicts::minus(refusal.refusal_number()),
+    }
 }

@@ -1,22 +1,21 @@
 -- The wider C boundary.
 -- Assumes nothing.
-use mathlib.Core.Path.{◌≡◌, refl, ap}
+use mathlib.Core.Path.{◌≡◌, refl, ap, ◌∙◌}
 use mathlib.Core.List.{List}
 use Prim.Native.Nat.{ℕ}
 use borrow.Author.Tests.{eq-eqb, ne_eqb}
 use lib.IntN.{pos}
 use lib.ListN.{length}
+use Rattle.std.specs.Prelude.{Ok, Err, Result}
+use Rattle.kept.specs.declared.Unsalvaged.{Unsalvaged}
 use Rattle.blocks.specs.Frames.{if_sound}
 use Rattle.blocks.specs.Walk.{walked_of}
-use Rattle.blocks.specs.declared.Ending.{Ending}
-use Rattle.blocks.specs.declared.Ending.TheVariants as Ending
+use Rattle.blocks.specs.Walk.{Ending}
 use Rattle.salvage.specs.Salvaging.{result_of, buffer_by, buffer_of}
 use Rattle.salvage.specs.declared.Salvaged.{Salvaged}
 use Rattle.tally.specs.Book.{tallied, book_by, book_then}
-use Rattle.tally.specs.Entering.{entering_by, entering_of, book_after_recording, recording_entry}
+use Rattle.tally.specs.Entering.{of_entry, entering_by, entering_of, book_after_recording, recording_entry}
 use Rattle.tally.specs.declared.Entry.{Entry}
-use Rattle.tally.specs.declared.Tallied.{Tallied}
-use Rattle.tally.specs.declared.Tallied.TheVariants.{Entered, AlreadyHeld, OtherCount, Full}
 use Rattle.listing.specs.Listing.{room, listed_of, listing_left}
 use Rattle.verdicts.specs.Verdicts.{verdict_of, ending_told, recording_told}
 use Rattle.mender.specs.Results.{salvage_result, changes_left}
@@ -24,6 +23,10 @@ use Rattle.ledger.specs.Results.{enter_result, entering_result}
 use Rattle.hearer.specs.Hearing.{refusal_in}
 use Rattle.promises.specs.Archive.{ListTells, RefusedListStays, RecordingTold, RefusedSalvageStays}
 use Rattle.promises.specs.Archive.{RefusedEnteringStays, RefusedHearingStays}
+use Rattle.std.specs.Prelude.{Result, Ok, Err}
+use Rattle.tally.specs.declared.Tallied.{Tallied}
+use Rattle.tally.specs.declared.Tallied.TheVariants.{Entered, AlreadyHeld}
+use Rattle.tally.specs.declared.Refusal.{Refusal}
 
 pub list_tells : ListTells
 unfolding ListTells listed_of verdict_of
@@ -44,22 +47,26 @@ pub refused_salvage_stays : RefusedSalvageStays
 unfolding RefusedSalvageStays buffer_of
 refused_salvage_stays s o c why e = (
   ap salvage_result e,
-  ap (λ (x : Salvaged). buffer_by x (result_of s) o) e,
-  ap (λ (x : Salvaged). changes_left x (length s) c) e,
+  ap (λ (x : Result Salvaged Unsalvaged). buffer_by x (result_of s) o) e,
+  ap (λ (x : Result Salvaged Unsalvaged). changes_left x (length s) c) e,
 )
 
 -- an answer below 0 leaves the book
-stays : (t : Tallied) (b : List ℕ) (e : Entry) → ((n : ℕ) → enter_result t ≡ pos n → ⊥) → book_by t b e ≡ b
-stays Entered b e below = absurd (below 0 refl)
-stays AlreadyHeld b e below = refl
-stays OtherCount b e below = refl
-stays Full b e below = refl
+stays : (t : Result Tallied Refusal) (b : List ℕ) (e : Entry) → ((n : ℕ) → enter_result t ≡ pos n → ⊥) → book_by t b e ≡ b
+stays (Ok Entered) b e below = absurd (below 0 refl)
+stays (Ok AlreadyHeld) b e below = refl
+stays (Err refusal) b e below = refl
+
+-- an entry has the same result as a recording that is entered by it
+same_result : (t : Result Tallied Refusal) → entering_result (of_entry t) ≡ enter_result t
+same_result (Ok tallied) = refl
+same_result (Err refusal) = refl
 
 by_ending : (x : Ending) (b : List ℕ) (e : Entry) → ((n : ℕ) → entering_result (entering_by x b e) ≡ pos n → ⊥)
     → if_sound x (book_then b e) b ≡ b
 unfolding book_then
-by_ending Ending.Sound b e below = stays (tallied b e) b e below
-by_ending (Ending.Refused cause) b e below = refl
+by_ending (Ok _) b e below = stays (tallied b e) b e (λ n q. below n (same_result (tallied b e) ∙ q))
+by_ending (Err cause) b e below = refl
 
 pub refused_entering_stays : RefusedEnteringStays
 unfolding RefusedEnteringStays entering_of book_after_recording

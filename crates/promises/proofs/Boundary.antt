@@ -2,6 +2,7 @@
 -- Assumes nothing.
 use mathlib.Core.Path.{◌≡◌, ◌∙◌, sym, refl, ap}
 use mathlib.Core.List.{List}
+use Rattle.std.specs.Prelude.{Some, Ok, Err}
 use Prim.Native.Nat.{ℕ, ◌+◌}
 use native.Mathlib.Omega.{arith}
 use borrow.Author.Tests.{eq-eqb}
@@ -9,13 +10,11 @@ use lib.IntN.{pos, nat_abs}
 use lib.ListN.{length}
 use Rattle.laws.proofs.Tabulate.{length_tabulate}
 use Rattle.frame.specs.Frame.{frame_of}
-use Rattle.frame.specs.Answers.{reading_of, written_of, frame_left, left_by, refusal_of}
+use Rattle.frame.specs.Answers.{reading_of, read_of, Written, written_of, frame_left, left_by, refusal_of}
 use Rattle.frame.specs.declared.Correction.TheVariants as Correction
 use Rattle.frame.specs.declared.Reading.{Reading}
-use Rattle.frame.specs.declared.Verdict.TheVariants as Verdict
-use Rattle.frame.specs.declared.Written.{Written}
-use Rattle.frame.specs.declared.Written.TheVariants as Written
-use Rattle.frame.proofs.Answered.{read_eighteen}
+use Rattle.frame.specs.declared.Refusal.TheVariants.{WrongLength, TooLarge, Falling, Expansion}
+use Rattle.frame.proofs.Answered.{some_read, was_read}
 use Rattle.pairs.specs.Pairs.{bytes_of, pair_in, record_in}
 use Rattle.verdicts.specs.Verdicts.{refused}
 use Rattle.gateway.specs.Results.{result_of, read_result, record_left, write_result, frame_left_by}
@@ -33,7 +32,7 @@ pairs_hold_record = (
 )
 
 -- where both buffers have their lengths, a reading is told and put
-module _ (s o : List ℕ) (read : (reading_of s).verdict ≡ Verdict.Read) (long : length o ≡ 56) where
+module _ (s o : List ℕ) (read : read_of s ≡ Some (reading_of s)) (long : length o ≡ 56) where
   -- the result has the mark, the number and what the kind adds
   pub read_result_is : read_result s (length o) ≡ pos (result_of (reading_of s))
   unfolding read_result
@@ -56,8 +55,8 @@ read_tells s o eighteen long = record {
   left = record_left_is s o read long;
 }
   where
-    read : (reading_of s).verdict ≡ Verdict.Read
-    read = ap (λ (x : Reading). x.verdict) (read_eighteen s eighteen)
+    read : read_of s ≡ Some (reading_of s)
+    read = sym (some_read s eighteen refl)
 
 -- the writer's result and buffer, where the record has 56 bytes
 module _ (s o : List ℕ) (long : length s ≡ 56) where
@@ -72,15 +71,15 @@ module _ (s o : List ℕ) (long : length s ≡ 56) where
   left_is = rw (eq-eqb (length s) 56 long)
 
   -- a result of 0 is the frame's
-  zero_is_frame : write_result s (length o) ≡ pos 0 → written_of (record_in s) (length o) ≡ Written.Frame
+  zero_is_frame : write_result s (length o) ≡ pos 0 → written_of (record_in s) (length o) ≡ Ok tt
   zero_is_frame e = go (written_of (record_in s) (length o)) (sym result_is ∙ e)
     where
-      go : (a : Written) → refused (refusal_of a) ≡ pos 0 → a ≡ Written.Frame
-      go Written.Frame z = refl
-      go Written.WrongLength z = absurd (let q : ◌≡◌ {A = ℕ} 1 0 = ap nat_abs z in omega (arith, q))
-      go (Written.TooLarge f) z = absurd (let q : ◌≡◌ {A = ℕ} 2 0 = ap nat_abs z in omega (arith, q))
-      go (Written.Falling m) z = absurd (let q : ◌≡◌ {A = ℕ} 3 0 = ap nat_abs z in omega (arith, q))
-      go Written.Expansion z = absurd (let q : ◌≡◌ {A = ℕ} 6 0 = ap nat_abs z in omega (arith, q))
+      go : (a : Written) → refused (refusal_of a) ≡ pos 0 → a ≡ Ok tt
+      go (Ok frame) z = refl
+      go (Err WrongLength) z = absurd (let q : ◌≡◌ {A = ℕ} 1 0 = ap nat_abs z in omega (arith, q))
+      go (Err (TooLarge f)) z = absurd (let q : ◌≡◌ {A = ℕ} 2 0 = ap nat_abs z in omega (arith, q))
+      go (Err (Falling m)) z = absurd (let q : ◌≡◌ {A = ℕ} 3 0 = ap nat_abs z in omega (arith, q))
+      go (Err Expansion) z = absurd (let q : ◌≡◌ {A = ℕ} 6 0 = ap nat_abs z in omega (arith, q))
 
 pub write_tells : WriteTells
 unfolding WriteTells frame_left
@@ -93,10 +92,10 @@ write_tells s o long = (
 pub boundary_reads_back : BoundaryReadsBack
 unfolding BoundaryReadsBack ReadsBack record_in
 boundary_reads_back s o p full room e = (
-  read_result_is (frame_left_by s o) p (ap (λ (x : Reading). x.verdict) back) room
-      ∙ ap (λ (x : Reading). pos (result_of x)) back,
-  record_left_is (frame_left_by s o) p (ap (λ (x : Reading). x.verdict) back) room
-      ∙ ap (λ (x : Reading). bytes_of x.indices) back ∙ bytes_of_record s full.long full.bytes,
+  read_result_is (frame_left_by s o) p read room
+      ∙ ap (λ (x : Reading). pos (result_of x)) same,
+  record_left_is (frame_left_by s o) p read room
+      ∙ ap (λ (x : Reading). bytes_of x.indices) same ∙ bytes_of_record s full.long full.bytes,
 )
   where
     shaped : Shaped (record_in s)
@@ -106,6 +105,12 @@ boundary_reads_back s o p full room e = (
           indices = length_tabulate (λ k. pair_in s (k + 11)) 16;
         }
 
-    back : reading_of (frame_left_by s o)
-        ≡ record { verdict = Verdict.Read; indices = record_in s; correction = Correction.Clean; mark = 0 }
-    back = ap reading_of (left_is s o full.long) ∙ reads_back (record_in s) o shaped (zero_is_frame s o full.long e)
+    back : read_of (frame_left_by s o)
+        ≡ Some (record { indices = record_in s; correction = Correction.Clean; mark = 0 })
+    back = ap read_of (left_is s o full.long) ∙ reads_back (record_in s) o shaped (zero_is_frame s o full.long e)
+
+    same : reading_of (frame_left_by s o) ≡ record { indices = record_in s; correction = Correction.Clean; mark = 0 }
+    same = sym (was_read (frame_left_by s o) (sym back)).1
+
+    read : read_of (frame_left_by s o) ≡ Some (reading_of (frame_left_by s o))
+    read = sym (some_read (frame_left_by s o) (was_read (frame_left_by s o) (sym back)).0 refl)

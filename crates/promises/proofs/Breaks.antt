@@ -9,13 +9,13 @@ use native.Mathlib.Omega.{arith}
 use native.Mathlib.Decide.{ℕ_discrete, dec_lt}
 use lib.ListN.{length, get_or, take, drop, length-append, length-drop, drop_of_length-le, get_or-append}
 use lib.Seq.{length-take-le, take_all, take-append-le, drop-append-le, get_or-take, get_or-drop, get_or-append-add}
+use Rattle.std.specs.Prelude.{Ok}
 use Rattle.laws.specs.Total.{total}
 use Rattle.laws.proofs.Total.{total_none, total_one, total_zero}
 use Rattle.frame.specs.Answers.{reading_of}
 use Rattle.frame.proofs.Readings.{reading_sync}
 use Rattle.values.specs.Values.{fresh_state}
-use Rattle.values.specs.declared.LastSy.{LastSy}
-use Rattle.values.specs.declared.LastSy.TheVariants.{Never, Was}
+use Rattle.std.specs.Prelude.{Option, None, Some}
 use Rattle.values.specs.declared.State.{State}
 use Rattle.blocks.specs.Frames.{cut, eighteens, frames_in, frames_of}
 use Rattle.blocks.specs.Made.{made, MadeFrom}
@@ -28,7 +28,6 @@ use Rattle.passes.proofs.Hearings.{through_last}
 use Rattle.passes.proofs.Passes.{frames_most}
 use Rattle.recording.specs.Judged.{judged_of}
 use Rattle.recording.specs.declared.Summary.{Summary}
-use Rattle.recording.specs.declared.Judged.TheVariants.{Sound}
 use Rattle.promises.specs.Breaks.{sync_of, Breaks, first_of_all, first_here, later, BreakExactly, SyncRunsOn, Lost}
 use Rattle.promises.specs.Parts.{joined}
 use Rattle.promises.specs.Made.{made_summary}
@@ -41,12 +40,12 @@ use Rattle.promises.proofs.Made.{made_is_sound}
 module _ (before : State) (frames : List (List ℕ)) where
   -- a later frame breaks at the SY of the frame before it
   break_later : (n : ℕ) → 1 ≤ n → break_at before frames (suc n) ≡ break_of (sync_of frames (suc n)) (sync_of frames n)
-  break_later n h = ap (λ (t : LastSy). break_of (sync_of frames (suc n)) (breaks_at t))
+  break_later n h = ap (λ (t : Option ℕ). break_of (sync_of frames (suc n)) (breaks_at t))
       (last_behind before frames n (suc n) h (omega arith))
 
   -- and the first after a last SY at that
-  break_first : (t : LastSy) → before.last ≡ t → break_at before frames 1 ≡ break_of (sync_of frames 1) (breaks_at t)
-  break_first t e = ap (λ (l : LastSy). break_of (sync_of frames 1) (breaks_at l)) e
+  break_first : (t : Option ℕ) → before.last ≡ t → break_at before frames 1 ≡ break_of (sync_of frames 1) (breaks_at t)
+  break_first t e = ap (λ (l : Option ℕ). break_of (sync_of frames 1) (breaks_at l)) e
 
 -- a frame is counted where its SY is the one at which it breaks
 broken_at : (sy at : ℕ) → break_of sy at ≡ 1 → sy ≡ at
@@ -65,15 +64,15 @@ break_exactly before frames (suc zero) h = (
       (breaks_at before.last),
 )
   where
-    there : (t : LastSy) → before.last ≡ t → break_at before frames 1 ≡ 1 → Breaks before frames 1
-    there Never l e = first_of_all l (broken_at (sync_of frames 1) 1 (sym (break_first before frames Never l) ∙ e))
-    there (Was sy) l e =
-        first_here (l ∙ ap Was (sym (broken_at (sync_of frames 1) sy (sym (break_first before frames (Was sy) l) ∙ e))))
+    there : (t : Option ℕ) → before.last ≡ t → break_at before frames 1 ≡ 1 → Breaks before frames 1
+    there None l e = first_of_all l (broken_at (sync_of frames 1) 1 (sym (break_first before frames None l) ∙ e))
+    there (Some sy) l e =
+        first_here (l ∙ ap Some (sym (broken_at (sync_of frames 1) sy (sym (break_first before frames (Some sy) l) ∙ e))))
 
     back : Breaks before frames 1 → break_at before frames 1 ≡ 1
-    back (first_of_all l e) = break_first before frames Never l ∙ sym (break_one (sync_of frames 1) 1 e)
+    back (first_of_all l e) = break_first before frames None l ∙ sym (break_one (sync_of frames 1) 1 e)
     back (first_here l) =
-        break_first before frames (Was (sync_of frames 1)) l ∙ sym (break_one (sync_of frames 1) (sync_of frames 1) refl)
+        break_first before frames (Some (sync_of frames 1)) l ∙ sym (break_one (sync_of frames 1) (sync_of frames 1) refl)
     back (later zero a e) = absurd (omega arith)
 break_exactly before frames (suc (suc n)) h =
     ((there, back), break_small (sync_of frames (suc (suc n))) (breaks_at (last_before before frames (suc (suc n)))))
@@ -114,7 +113,7 @@ module _ (frames : List (List ℕ)) (count : ℕ)
       go (ℕ_discrete (sync_of frames 1) 1) small
     where
       go : Dec (sync_of frames 1 ≡ 1) → sync_of frames 1 < 2 → sync_of frames 1 ≡ 0 % 2
-      go (yes e) small = absurd (not_there 1 1 (omega arith) (omega arith) (break_first fresh_state frames Never refl) e)
+      go (yes e) small = absurd (not_there 1 1 (omega arith) (omega arith) (break_first fresh_state frames None refl) e)
       go (no w) small = omega arith
   in_turn (suc n) h =
       go (ℕ_discrete (sync_of frames (suc (suc n))) (sync_of frames (suc n))) (in_turn n (omega arith))
@@ -187,7 +186,7 @@ module _ (frames : List (List ℕ)) (k m : ℕ) (within : k + m ≤ length frame
   unfolding fresh_state
   first_away h =
       let s = sync_before 0 h in
-      break_first fresh_state left Never refl ∙ adds (sync_of left 1) 1 0 (λ e. absurd (omega arith)) (λ w. refl)
+      break_first fresh_state left None refl ∙ adds (sync_of left 1) 1 0 (λ e. absurd (omega arith)) (λ w. refl)
 
   before_away : (i : ℕ) → suc i < k → break_at fresh_state left (suc (suc i)) ≡ 0
   before_away i h =
@@ -222,7 +221,7 @@ module _ (frames : List (List ℕ)) (k m : ℕ) (within : k + m ≤ length frame
       let n : k + 0 ≡ 0 = omega arith in
       let s = ap (λ (i : ℕ). sync_of left (suc i)) (sym n) ∙ sync_behind 0 (omega arith) in
       ap (λ (i : ℕ). break_at fresh_state left (suc i)) e
-      ∙ break_first fresh_state left Never refl
+      ∙ break_first fresh_state left None refl
       ∙ adds (sync_of left 1) 1 (m % 2) (λ q. omega arith) (λ w. omega arith)
   at_gap (suc i) e h =
       let n : k + 0 ≡ suc i = omega arith in
@@ -346,7 +345,7 @@ module _ (heading : Heading) (fs : List (List ℕ)) (long : Long fs) (some : 0 <
       first P zero h p = p
       first P (suc k) h p = absurd (omega arith)
 
-  recorded : (t : List ℕ) × (y : Summary) × (judged_of t ≡ Sound y) × (frames_of t ≡ fs)
+  recorded : (t : List ℕ) × (y : Summary) × (judged_of t ≡ Ok y) × (frames_of t ≡ fs)
   unfolding frames_of
   recorded =
       let t = made heading (payload ∷ []) in

@@ -31,6 +31,7 @@ pub demand_one : DemandOne
 demand_one =
     record {
       every_frame_read = frames.every_frame_read;
+      frames_answered = functions.frames_answered;
       reader_refuses = refused.reader_refuses;
       writer_refuses = refused.writer_refuses;
       hearing_refuses = refused.hearing_refuses;

@@ -8,9 +8,9 @@ use native.Mathlib.Omega.{arith}
 use native.Mathlib.Decide.{ℕ_discrete, dec_le}
 use borrow.Author.Tests.{eq-eqb, ne_eqb, le-leb, lt-leb}
 use Rattle.delays.specs.Codes.{listed}
-use Rattle.excitation.specs.Outcome.{indices_fit, outcome_of, refusal_of, tells_of}
-use Rattle.excitation.specs.declared.Outcome.{Outcome}
-use Rattle.excitation.specs.declared.Outcome.TheVariants.{Written, WrongLength, TooLarge, NotListed, NotWhole}
+use Rattle.excitation.specs.Outcome.{Outcome, indices_fit, outcome_of, refusal_of, tells_of}
+use Rattle.excitation.specs.declared.Refusal.TheVariants.{WrongLength, TooLarge, NotListed, NotWhole}
+use Rattle.std.specs.Prelude.{Ok, Err}
 use Rattle.promises.specs.Refused.{Listed}
 use Rattle.promises.specs.Excitation.{IndicesFit, ExcitationGives, ExcitationRefuses, ExcitationTable}
 use Rattle.promises.specs.Excitation.{excitation_length, excitation_index, excitation_unlisted}
@@ -58,12 +58,12 @@ module _ (n delay pg ci cg : ℕ) where
   -- no outcome is given whose condition is not met
   excitation_only : (o : Outcome) → ExcitationGives n delay pg ci cg o → outcome_of n delay pg ci cg ≡ o
   unfolding outcome_of
-  excitation_only WrongLength w = rw (ne_eqb n 60 w)
-  excitation_only TooLarge (e, w) = rw (eq-eqb n 60 e, unfit_test pg ci cg w)
-  excitation_only NotListed (e, f, w) = rw (eq-eqb n 60 e, fit_test pg ci cg f, unlisted_test delay w)
-  excitation_only NotWhole (e, f, l, w) =
+  excitation_only (Err WrongLength) w = rw (ne_eqb n 60 w)
+  excitation_only (Err TooLarge) (e, w) = rw (eq-eqb n 60 e, unfit_test pg ci cg w)
+  excitation_only (Err NotListed) (e, f, w) = rw (eq-eqb n 60 e, fit_test pg ci cg f, unlisted_test delay w)
+  excitation_only (Err NotWhole) (e, f, l, w) =
       rw (eq-eqb n 60 e, fit_test pg ci cg f, listed_test delay l, ne_eqb (delay % 12) 0 w)
-  excitation_only Written (e, f, l, w) =
+  excitation_only (Ok u) (e, f, l, w) =
       rw (eq-eqb n 60 e, fit_test pg ci cg f, listed_test delay l, eq-eqb (delay % 12) 0 w)
 
   -- and the one that is given has its condition met
@@ -76,21 +76,21 @@ module _ (n delay pg ci cg : ℕ) where
 
       four : n ≡ 60 → IndicesFit pg ci cg → Listed delay → Dec (delay % 12 ≡ 0)
           → ExcitationGives n delay pg ci cg (outcome_of n delay pg ci cg)
-      four e f l (yes w) = by Written (e, f, l, w)
-      four e f l (no w) = by NotWhole (e, f, l, w)
+      four e f l (yes w) = by (Ok tt) (e, f, l, w)
+      four e f l (no w) = by (Err NotWhole) (e, f, l, w)
 
       three : n ≡ 60 → IndicesFit pg ci cg → (t : Bool) → listed delay ≡ t
           → ExcitationGives n delay pg ci cg (outcome_of n delay pg ci cg)
       three e f true w = four e f (listed_yes delay w) (ℕ_discrete (delay % 12) 0)
-      three e f false w = by NotListed (e, f, listed_no delay w)
+      three e f false w = by (Err NotListed) (e, f, listed_no delay w)
 
       two : n ≡ 60 → Dec (IndicesFit pg ci cg) → ExcitationGives n delay pg ci cg (outcome_of n delay pg ci cg)
       two e (yes f) = three e f (listed delay) refl
-      two e (no w) = by TooLarge (e, w)
+      two e (no w) = by (Err TooLarge) (e, w)
 
       one : Dec (n ≡ 60) → ExcitationGives n delay pg ci cg (outcome_of n delay pg ci cg)
       one (yes e) = two e (fit_dec pg ci cg)
-      one (no w) = by WrongLength w
+      one (no w) = by (Err WrongLength) w
 
 pub excitation_refuses : ExcitationRefuses
 unfolding ExcitationRefuses
@@ -102,19 +102,19 @@ excitation_refuses n delay pg ci cg o = (
 module _ (n delay pg ci cg : ℕ) where
   excitation_row : (o : Outcome) → ExcitationGives n delay pg ci cg o
       → ExcitationTable n delay pg ci cg (refusal_of o) (tells_of o)
-  excitation_row WrongLength g = excitation_length g
-  excitation_row TooLarge g = excitation_index g
-  excitation_row NotListed g = excitation_unlisted g
-  excitation_row NotWhole g = excitation_between g
-  excitation_row Written g = excitation_written g
+  excitation_row (Err WrongLength) g = excitation_length g
+  excitation_row (Err TooLarge) g = excitation_index g
+  excitation_row (Err NotListed) g = excitation_unlisted g
+  excitation_row (Err NotWhole) g = excitation_between g
+  excitation_row (Ok u) g = excitation_written g
 
   excitation_at : {k : ℕ} {t : List ℕ} → ExcitationTable n delay pg ci cg k t
       → (refusal_of (outcome_of n delay pg ci cg) ≡ k) × (tells_of (outcome_of n delay pg ci cg) ≡ t)
-  excitation_at (excitation_length g) = told refusal_of tells_of (excitation_only n delay pg ci cg WrongLength g)
-  excitation_at (excitation_index g) = told refusal_of tells_of (excitation_only n delay pg ci cg TooLarge g)
-  excitation_at (excitation_unlisted g) = told refusal_of tells_of (excitation_only n delay pg ci cg NotListed g)
-  excitation_at (excitation_between g) = told refusal_of tells_of (excitation_only n delay pg ci cg NotWhole g)
-  excitation_at (excitation_written g) = told refusal_of tells_of (excitation_only n delay pg ci cg Written g)
+  excitation_at (excitation_length g) = told refusal_of tells_of (excitation_only n delay pg ci cg (Err WrongLength) g)
+  excitation_at (excitation_index g) = told refusal_of tells_of (excitation_only n delay pg ci cg (Err TooLarge) g)
+  excitation_at (excitation_unlisted g) = told refusal_of tells_of (excitation_only n delay pg ci cg (Err NotListed) g)
+  excitation_at (excitation_between g) = told refusal_of tells_of (excitation_only n delay pg ci cg (Err NotWhole) g)
+  excitation_at (excitation_written g) = told refusal_of tells_of (excitation_only n delay pg ci cg (Ok tt) g)
 
 pub excitation_numbers : ExcitationNumbers
 unfolding ExcitationNumbers

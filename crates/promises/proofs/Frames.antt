@@ -2,6 +2,7 @@
 -- Assumes nothing.
 use mathlib.Core.Path.{◌≡◌, ◌∙◌, sym, refl, ap, subst}
 use mathlib.Core.Bool.{Bool, true, false, cond, true≢false}
+use Rattle.std.specs.Prelude.{Ok}
 use mathlib.Core.List.{List}
 use Prim.Native.Nat.{ℕ, ◌+◌, ◌%◌, ◌^◌, ◌<◌, ◌≤◌}
 use native.Mathlib.Omega.{arith}
@@ -22,10 +23,9 @@ use Rattle.frame.specs.Places.{field_at, bit_in, bits_in, place_of, field_of, bi
 use Rattle.frame.specs.Parity.{guarded_name, guarded_place, number, mended, inverted}
 use Rattle.frame.specs.Correction.{correction_of}
 use Rattle.frame.specs.Frame.{byte_of, shift_of, bit_at, packed, index_in, record_of, sent, with_parity, parity_of, frame_of}
-use Rattle.frame.specs.Answers.{record_mark, reading_of, correction_number, written_of}
+use Rattle.frame.specs.Answers.{record_mark, reading_of, read_of, correction_number, written_of}
+use Rattle.frame.specs.declared.Correction.TheVariants as Correction
 use Rattle.frame.specs.declared.Reading.{Reading}
-use Rattle.frame.specs.declared.Verdict.TheVariants as Verdict
-use Rattle.frame.specs.declared.Written.TheVariants as Written
 use Rattle.frame.proofs.Order.{byte_small}
 use Rattle.frame.proofs.Fields.{index_small, index_bit, field_small, bit_small, place_of_here, place_first, place_last}
 use Rattle.frame.proofs.Fields.{field_of_place}
@@ -33,7 +33,7 @@ use Rattle.frame.proofs.Gathered.{bit_at_small}
 use Rattle.frame.proofs.Packed.{sent_small}
 use Rattle.frame.proofs.Mended.{guarded_field_small, guarded_bit_small, guarded_place_lem, guarded_first, guarded_apart}
 use Rattle.frame.proofs.Mended.{mended_bits, mended_same, mended_there}
-use Rattle.frame.proofs.Answered.{accepted, Accepted, accepted_only, left, read_eighteen}
+use Rattle.frame.proofs.Answered.{accepted, Accepted, accepted_only, left, read_eighteen, some_read}
 use Rattle.frame.proofs.Corrections.{number_of_correction, clean_at_zero}
 use Rattle.frame.proofs.Readings.{record_fits, reading_range, reading_case}
 use Rattle.frame.proofs.Laws.{bit_packed, packed_byte_lem, length_packed, packed_bits, packed_cong_bits, number_cong}
@@ -87,17 +87,19 @@ module _ (r : Record) where
 pub reads_back : ReadsBack
 unfolding ReadsBack
 reads_back r s shaped e =
-    ap reading_of (sym (left r s Written.Frame (sym e)))
-    ∙ read_eighteen (frame_of r) (frame_long r)
-    ∙ (λ i. record {
-      verdict = Verdict.Read;
-      indices = record_read r shaped a.fits i;
-      correction = (ap correction_of (frame_clean r) ∙ sym (clean_at_zero 0 refl)) i;
-      mark = (ap record_mark (record_read r shaped a.fits) ∙ a.order) i;
-    })
+    ap read_of (sym (left r s (Ok tt) (sym e))) ∙ sym (some_read (frame_of r) (frame_long r) (sym whole))
   where
     a : Accepted r (length s)
     a = accepted_only r (length s) e
+
+    whole : reading_of (frame_of r) ≡ record { indices = r; correction = Correction.Clean; mark = 0 }
+    whole =
+        read_eighteen (frame_of r) (frame_long r)
+        ∙ (λ i. record {
+          indices = record_read r shaped a.fits i;
+          correction = (ap correction_of (frame_clean r) ∙ sym (clean_at_zero 0 refl)) i;
+          mark = (ap record_mark (record_read r shaped a.fits) ∙ a.order) i;
+        })
 
 -- the parts of a reading
 module _ (s : List ℕ) (long : length s ≡ 18) where
@@ -170,13 +172,13 @@ same_bits_back s t full long = (clean, back)
         a = accepted_only (reading_of s).indices (length t) w.accepted
 
         whole : frame_of (reading_of s).indices ≡ s
-        whole = left (reading_of s).indices t Written.Frame (sym w.accepted) ∙ w.same
+        whole = left (reading_of s).indices t (Ok tt) (sym w.accepted) ∙ w.same
 
     back : Clean s → WritesBack s t
     back c =
         record {
           accepted = sym yes_accepted;
-          same = sym (left (reading_of s).indices t Written.Frame yes_accepted) ∙ whole;
+          same = sym (left (reading_of s).indices t (Ok tt) yes_accepted) ∙ whole;
         }
       where
         zero_number : number b ≡ 0
@@ -185,7 +187,7 @@ same_bits_back s t full long = (clean, back)
         same : r ≡ record_of b
         same = record_cong (mended b) b (λ p a l. clean_same b zero_number p a)
 
-        yes_accepted : Written.Frame ≡ written_of (reading_of s).indices (length t)
+        yes_accepted : Ok tt ≡ written_of (reading_of s).indices (length t)
         yes_accepted =
             accepted (reading_of s).indices (length t) long
             (ap too_large_field is ∙ record_fits (mended b) (mended_bits b (bit_at_small s)))
@@ -404,7 +406,7 @@ two_reported r w e made full m n two z =
 
 pub every_frame_read : EveryFrameRead
 unfolding EveryFrameRead
-every_frame_read s full = ap (λ (x : Reading). x.verdict) (read_eighteen s full.long)
+every_frame_read s full = sym (some_read s full.long refl)
 
 -- two sets of bits with the same record and number after correction are the same bits
 module _ (b c : ℕ → ℕ) (bits : (p : ℕ) → b p < 2) (bits' : (p : ℕ) → c p < 2)

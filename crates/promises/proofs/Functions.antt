@@ -1,25 +1,32 @@
 -- The promises about frames, carried to `reader::read` and `writer::write` by their contracts.
 -- Assumes nothing.
-use mathlib.Core.Path.{◌≡◌, ◌∙◌, sym, ap, subst}
+use mathlib.Core.Path.{◌≡◌, ◌∙◌, sym, refl, ap, subst}
 use mathlib.Core.List.{List}
+use Rattle.std.specs.Prelude.{Option, Some, Ok}
 use Prim.Native.Nat.{ℕ}
 use lib.ListN.{length}
 use Rattle.record.specs.declared.Record.{Record}
-use Rattle.frame.specs.Answers.{reading_of, correction_number, written_of, frame_left}
+use Rattle.frame.specs.Answers.{reading_of, read_of, correction_number, Written, written_of, frame_left}
 use Rattle.frame.specs.declared.Reading.{Reading}
-use Rattle.frame.specs.declared.Written.{Written}
-use Rattle.frame.specs.declared.Written.TheVariants as Written
-use Rattle.frame.proofs.Answered.{accepted_only, left}
+use Rattle.frame.proofs.Answered.{accepted_only, left, some_read, was_read}
 use Rattle.promises.specs.Frames.{Shaped, ReadsBack, WritesBack, SameBits, Made, OfTheFlips, DamageAlone}
 use Rattle.promises.specs.Frames.{data_bit_of}
 use Rattle.promises.specs.Frames.{OneMended, TwoReported, OneFrame}
-use Rattle.promises.specs.Functions.{Answers, Leaves, WriteThenRead, ReadThenWrite, RepairByDamage, OneFlip}
+use Rattle.promises.specs.Functions.{Answers, Leaves, FramesAnswered, WriteThenRead, ReadThenWrite, RepairByDamage, OneFlip}
 use Rattle.promises.specs.Functions.{TwoFlips, NoTwoFrames}
 use Rattle.promises.proofs.Frames.{reads_back, same_bits_back, damage_alone, one_mended, two_reported, one_frame}
 
 -- what the contracts say of an answer and of the bytes left
-answers_is : {s : List ℕ} {d : Reading} → Answers s d → d ≡ reading_of s
-answers_is a = a.allowed ∙ ap reading_of a.bytes
+answers_are : {s : List ℕ} {d : Option Reading} → Answers s d → d ≡ read_of s
+answers_are a = a.allowed ∙ ap read_of a.bytes
+
+-- a reading is that of the bytes
+answers_is : {s : List ℕ} {d : Reading} → Answers s (Some d) → d ≡ reading_of s
+answers_is {s} a = (was_read s (answers_are a)).1
+
+pub frames_answered : FramesAnswered
+unfolding FramesAnswered
+frames_answered s d full a = answers_are a ∙ sym (some_read s full.long refl)
 
 module _ {r : Record} {s t : List ℕ} {a : Written} (l : Leaves r s a t) where
   -- the answer is the definition's
@@ -37,7 +44,7 @@ module _ {r : Record} {s t : List ℕ} {a : Written} (l : Leaves r s a t) where
 pub write_then_read : WriteThenRead
 unfolding WriteThenRead ReadsBack
 write_then_read r s t d shaped l a =
-    answers_is a ∙ ap reading_of (left_is l) ∙ reads_back r s shaped (sym (written_is l))
+    answers_are a ∙ ap read_of (left_is l) ∙ reads_back r s shaped (sym (written_is l))
 
 pub read_then_write : ReadThenWrite
 unfolding ReadThenWrite SameBits
@@ -46,14 +53,14 @@ read_then_write s t u d a full long answers leaves = (clean, back)
     is : d ≡ reading_of s
     is = answers_is answers
 
-    both : (a ≡ Written.Frame) × (u ≡ s) → WritesBack s t
+    both : (a ≡ Ok tt) × (u ≡ s) → WritesBack s t
     both p =
         record {
           accepted = ap (λ (x : Reading). written_of x.indices (length t)) (sym is) ∙ sym (written_is leaves) ∙ p.0;
           same = ap (λ (x : Reading). frame_left x.indices t) (sym is) ∙ sym (left_is leaves) ∙ p.1;
         }
 
-    clean : (a ≡ Written.Frame) × (u ≡ s) → (correction_number d ≡ 0) × (d.indices.sp ≡ 0) × (d.mark ≡ 0)
+    clean : (a ≡ Ok tt) × (u ≡ s) → (correction_number d ≡ 0) × (d.indices.sp ≡ 0) × (d.mark ≡ 0)
     clean p =
         let c = (same_bits_back s t full long).0 (both p) in (
           ap correction_number is ∙ c.parity,
@@ -62,7 +69,7 @@ read_then_write s t u d a full long answers leaves = (clean, back)
           ap (λ (x : Reading). x.mark) is ∙ c.order,
         )
 
-    back : (correction_number d ≡ 0) × (d.indices.sp ≡ 0) × (d.mark ≡ 0) → (a ≡ Written.Frame) × (u ≡ s)
+    back : (correction_number d ≡ 0) × (d.indices.sp ≡ 0) × (d.mark ≡ 0) → (a ≡ Ok tt) × (u ≡ s)
     back q =
         let w = (same_bits_back s t full long).1
         (record {
@@ -75,14 +82,14 @@ read_then_write s t u d a full long answers leaves = (clean, back)
         )
 
 -- a frame that `write` left is one that the writer made
-made : {r : Record} {s w : List ℕ} → Shaped r → Leaves r s Written.Frame w → Made r w
+made : {r : Record} {s w : List ℕ} → Shaped r → Leaves r s (Ok tt) w → Made r w
 made {r} {s} {w} shaped l =
     record {
       shaped = shaped;
       accepted =
-          subst (λ (n : ℕ). written_of r n ≡ Written.Frame) (accepted_only r (length s) (sym (written_is l))).long
+          subst (λ (n : ℕ). written_of r n ≡ Ok tt) (accepted_only r (length s) (sym (written_is l))).long
           (sym (written_is l));
-      frame = left r s Written.Frame (written_is l) ∙ sym (left_is l);
+      frame = left r s (Ok tt) (written_is l) ∙ sym (left_is l);
     }
 
 pub repair_by_damage : RepairByDamage

@@ -3,18 +3,17 @@
 use mathlib.Core.Path.{◌≡◌, ◌∙◌, sym, ap, ap₂, subst}
 use mathlib.Core.List.{List}
 use Prim.Native.Nat.{ℕ}
+use Rattle.std.specs.Prelude.{Ok}
 use Rattle.values.specs.Values.{fresh_state}
 use Rattle.blocks.specs.Frames.{payloads_of, frames_in, frames_of}
 use Rattle.blocks.specs.Made.{MadeFrom}
 use Rattle.blocks.specs.declared.Heading.{Heading}
-use Rattle.blocks.specs.declared.Ending.TheVariants.{Sound}
 use Rattle.blocks.specs.declared.Walk.{Walk}
 use Rattle.blocks.specs.declared.Walked.{Walked}
 use Rattle.blocks.proofs.Made.{made_is_walked, walked_is_made}
 use Rattle.passes.specs.Counted.{counts_of}
 use Rattle.recording.specs.Judged.{summary_of}
 use Rattle.recording.specs.declared.Summary.{Summary}
-use Rattle.recording.specs.declared.Judged.TheVariants as Judged
 use Rattle.promises.specs.Made.{MadeIsSound, SoundIsMade, NoTwo}
 use Rattle.promises.proofs.Rule.{judged_sound, walked_judged}
 
@@ -22,8 +21,8 @@ pub made_is_sound : MadeIsSound
 unfolding frames_of
 made_is_sound s heading ps m =
     let e = made_is_walked s heading ps m in (
-      walked_judged s Sound (ap (λ (w : Walked). w.ending) e.0)
-          ∙ ap₂ (λ (w : Walk) (fs : List (List ℕ)). Judged.Sound (summary_of w (counts_of fresh_state fs)))
+      walked_judged s (Ok tt) (ap (λ (w : Walked). w.ending) e.0)
+          ∙ ap₂ (λ (w : Walk) (fs : List (List ℕ)). Ok (summary_of w (counts_of fresh_state fs)))
           (ap (λ (w : Walked). w.walk) e.0)
           (ap frames_in e.1),
       e.1,

@@ -1,33 +1,31 @@
 -- Where the voice blocks of a recording stand, that their frames are all its frames, and what its counts are sums of.
 -- Assumes nothing.
 use mathlib.Core.Path.{◌≡◌, ◌∙◌, sym, refl, ap, ap₂, subst}
-use mathlib.Core.List.{List, [], ◌∷◌, ◌++◌, map}
+use mathlib.Core.List.{List, [], ◌∷◌, ◌++◌}
 use Prim.Native.Nat.{ℕ, zero, suc, ◌+◌, ◌-◌, ◌*◌, ◌/◌, ◌%◌, ◌<◌, ◌≤◌}
 use native.Mathlib.Omega.{arith}
 use native.Mathlib.Nat.{suc-add, zero-add}
 use native.Mathlib.Decide.{ℕ_discrete}
 use lib.ListN.{length, get_or, take, drop, length-append, length-drop, length-map, get_or-eq_default}
 use lib.Seq.{length-take-le, take-append-le, drop-append-le}
+use Rattle.std.specs.Prelude.{Ok, Err}
 use Rattle.laws.specs.Turns.{turns}
 use Rattle.blocks.specs.Blocks.{block_at, part}
 use Rattle.blocks.specs.Walk.{after_head, step_of, walk_from, walked_of}
-use Rattle.blocks.specs.Frames.{voice_size, span_at, spans_from, spans_of, nowhere, span_of, bytes_at, voices_from}
+use Rattle.blocks.specs.Frames.{voice_size, spans_from, spans_of, nowhere, span_of, bytes_at, voices_from}
 use Rattle.blocks.specs.Frames.{payloads_of, voice_block_of}
 use Rattle.blocks.specs.Frames.{cut, eighteens, frames_in, frames_of}
 use Rattle.blocks.specs.Made.{voice_blocks}
-use Rattle.passes.specs.Counted.{counts_to, counts_of}
-use Rattle.recording.specs.Judged.{summary_of, judged_of}
-use Rattle.promises.specs.Parts.{payload_place, Stands, VoiceBlocksStand, NoSuchBlock, joined}
+use Rattle.passes.specs.Counted.{counts_to}
+use Rattle.recording.specs.Judged.{judged_of}
+use Rattle.promises.specs.Parts.{Stands, VoiceBlocksStand, NoSuchBlock, joined}
 use Rattle.promises.specs.Parts.{FramesAreAll, FramesAreLong}
 use Rattle.promises.specs.Parts.{FramesFit, RefusedHasNone, EmptyRefused, EndCounts, RepairsCounted}
 use Rattle.promises.specs.Parts.{BreaksCounted}
-use Rattle.blocks.specs.declared.Cause.{Cause}
 use Rattle.blocks.specs.declared.Span.{Span}
-use Rattle.blocks.specs.declared.Ending.{Ending}
-use Rattle.blocks.specs.declared.Ending.TheVariants.{Sound, Refused}
+use Rattle.blocks.specs.Walk.{Ending}
 use Rattle.recording.specs.declared.Summary.{Summary}
-use Rattle.recording.specs.declared.Judged.TheVariants as Judged
-use Rattle.blocks.proofs.Voices.{voice_sized, spans_none, spans_more, voices_none, voices_more, spans_sound}
+use Rattle.blocks.proofs.Voices.{voice_sized, spans_more, voices_none, voices_more, spans_sound}
 use Rattle.blocks.proofs.Voices.{payloads_refused, block_payload}
 use Rattle.blocks.proofs.Frames.{frames_refused}
 use Rattle.blocks.proofs.Passed.{length_cut, frames_in_none, frames_in_more, blocks_none, blocks_more, sound_whole}
@@ -111,7 +109,7 @@ blocks_most (p ∷ ps) (suc k) =
     omega (arith, r, a, b)
 
 -- in a sound recording
-module _ (s : List ℕ) (e : (walked_of s).ending ≡ Sound) (k : ℕ) (l : k < length (payloads_of s)) where
+module _ (s : List ℕ) (e : (walked_of s).ending ≡ Ok tt) (k : ℕ) (l : k < length (payloads_of s)) where
   -- it is among those after the head
   in_voices : k < length (voices_from s (after_head 0))
   in_voices = subst (λ (x : List (List ℕ)). k < length x) (sound_whole s e).voices l
@@ -158,8 +156,8 @@ pub voice_blocks_stand : VoiceBlocksStand
 voice_blocks_stand s k l = go (walked_of s).ending refl
   where
     go : (x : Ending) → (walked_of s).ending ≡ x → Stands s k
-    go Sound e = stands s e k l
-    go (Refused cause) e = absurd (let n = ap length (payloads_refused s cause e) in omega (arith, n))
+    go (Ok _) e = stands s e k l
+    go (Err cause) e = absurd (let n = ap length (payloads_refused s cause e) in omega (arith, n))
 
 pub no_such_block : NoSuchBlock
 unfolding span_of voice_block_of payloads_of
@@ -230,11 +228,11 @@ unfolding frames_of
 frames_fit s = go (walked_of s).ending refl
   where
     go : (x : Ending) → (walked_of s).ending ≡ x → 18 * length (frames_in (payloads_of s)) ≤ length s
-    go Sound e =
+    go (Ok _) e =
         let o = sound_whole s e in
         let a = blocks_frames (payloads_of s) in
         omega (arith, a, o.ended.last, o.behind.at)
-    go (Refused cause) e =
+    go (Err cause) e =
         let b = ap (λ (x : List (List ℕ)). length (frames_in x)) (payloads_refused s cause e) ∙ frames_in_none in
         omega (arith, b)
 

@@ -1,6 +1,7 @@
 -- The table of refusal numbers, shown: each case of an answer has its row, and each row its case.
 -- Assumes nothing.
 use mathlib.Core.Path.{◌≡◌, ◌∙◌, sym, refl, ap, subst}
+use Rattle.std.specs.Prelude.{None, Some, Ok, Err}
 use mathlib.Core.List.{List, [], ◌∷◌}
 use Prim.Native.Nat.{ℕ, ◌<◌, ◌≤◌}
 use native.Mathlib.Omega.{arith}
@@ -8,30 +9,30 @@ use native.Mathlib.Decide.{ℕ_discrete, dec_le}
 use borrow.Author.Tests.{eq-eqb, ne_eqb}
 use lib.IntN.{ℤ, pos, neg_ℤ}
 use lib.ListN.{length}
+use Rattle.std.specs.Prelude.{Ok, Err, Result}
+use Rattle.recording.specs.declared.Summary.{Summary}
 use Rattle.record.specs.declared.Record.{Record}
 use Rattle.gains.specs.Gains.{gain_of}
 use Rattle.gains.specs.Gains as gain
 use Rattle.gains.proofs.Laws.{gain_value, gain_too_large}
 use Rattle.delays.specs.Codes.{meant_by, coded_of}
 use Rattle.delays.specs.Codes as delay
-use Rattle.delays.specs.declared.Meant.{Meant}
-use Rattle.delays.specs.declared.Meant.TheVariants as Meant
-use Rattle.delays.specs.declared.Coded.{Coded}
-use Rattle.delays.specs.declared.Coded.TheVariants.{Codes, NotListed, OutsideWindow}
+use Rattle.delays.specs.declared.CodeRefusal.{CodeRefusal}
+use Rattle.delays.specs.declared.CodeRefusal.TheVariants as Meant
+use Rattle.delays.specs.declared.DelayRefusal.{DelayRefusal}
+use Rattle.delays.specs.declared.DelayRefusal.TheVariants.{NotListed, OutsideWindow}
+use Rattle.std.specs.Prelude.{Result, Ok, Err}
 use Rattle.lsp.specs.Table.{hertz_of}
 use Rattle.lsp.specs.Table as hertz
-use Rattle.lsp.specs.declared.Verdict as lsp-verdict
-use Rattle.lsp.specs.declared.Verdict.TheVariants as Lsp
+use Rattle.lsp.specs.declared.Refusal as lsp-refusal
+use Rattle.lsp.specs.declared.Refusal.TheVariants as Lsp
 use Rattle.codebook.specs.Code as code
-use Rattle.codebook.specs.declared.Written as code_written
-use Rattle.codebook.specs.declared.Written.TheVariants as Code
-use Rattle.frame.specs.Answers.{reading_of, written_of}
+use Rattle.codebook.specs.declared.Refusal as code_refusal
+use Rattle.codebook.specs.declared.Refusal.TheVariants as Code
+use Rattle.frame.specs.Answers.{reading_of, read_of, Written, written_of}
 use Rattle.frame.specs.Answers as frame
-use Rattle.frame.specs.declared.Reading.{Reading}
-use Rattle.frame.specs.declared.Verdict.TheVariants as Verdict
-use Rattle.frame.specs.declared.Written.{Written}
-use Rattle.frame.specs.declared.Written.TheVariants as Written
-use Rattle.frame.proofs.Answered.{read_eighteen, read_refused}
+use Rattle.frame.specs.declared.Refusal.TheVariants as Refusal
+use Rattle.frame.proofs.Answered.{some_read, none_read}
 use Rattle.values.specs.Values.{values_of}
 use Rattle.values.specs.Outcome as hearing
 use Rattle.values.specs.declared.Outcome.{Outcome}
@@ -42,11 +43,8 @@ use Rattle.blocks.specs.Refusals.{refusal_of, tells_of, ending_refusal, ending_t
 use Rattle.blocks.specs.declared.Cause.{Cause}
 use Rattle.blocks.specs.declared.Cause.TheVariants.{TooLong, HeaderCut, PastEnd, WrongSize, UnknownKind, OutOfTurn}
 use Rattle.blocks.specs.declared.Cause.TheVariants.{EndMissing, WrongCount, Extra}
-use Rattle.blocks.specs.declared.Ending.{Ending}
-use Rattle.blocks.specs.declared.Ending.TheVariants as Ending
+use Rattle.blocks.specs.Walk.{Ending}
 use Rattle.recording.specs.Judged.{judged_of, judged_refusal, judged_tells}
-use Rattle.recording.specs.declared.Judged.{Judged}
-use Rattle.recording.specs.declared.Judged.TheVariants as Judged
 use Rattle.pairs.specs.Pairs.{record_in}
 use Rattle.verdicts.specs.Verdicts.{refused}
 use Rattle.gateway.specs.Results.{result_of, read_result, write_result}
@@ -84,22 +82,22 @@ told number tells e = (ap number e, ap tells e)
 -- the reader: refused where the bytes are not eighteen, and nowhere else
 module _ (s : List ℕ) where
   -- eighteen bytes are read
-  verdict_is : length s ≡ 18 → (reading_of s).verdict ≡ Verdict.Read
-  verdict_is e = ap (λ (x : Reading). x.verdict) (read_eighteen s e)
+  verdict_is : length s ≡ 18 → read_of s ≡ Some (reading_of s)
+  verdict_is e = sym (some_read s e refl)
 
   -- others are not
-  verdict_not : (length s ≡ 18 → ⊥) → (reading_of s).verdict ≡ Verdict.WrongLength
-  verdict_not w = ap (λ (x : Reading). x.verdict) (sym (read_refused s w))
+  verdict_not : (length s ≡ 18 → ⊥) → read_of s ≡ None
+  verdict_not w = sym (none_read s w)
 
   -- each row's condition gives its number
   reader_at : {k : ℕ} {t : List ℕ} → ReaderTable s k t
-      → (frame.read_refusal (reading_of s).verdict ≡ k) × (frame.read_tells (reading_of s).verdict ≡ t)
+      → (frame.read_refusal (read_of s) ≡ k) × (frame.read_tells (read_of s) ≡ t)
   reader_at (read_length w) = told frame.read_refusal frame.read_tells (verdict_not w)
   reader_at (read_frame e) = told frame.read_refusal frame.read_tells (verdict_is e)
 
   -- each number has a row
   reader_row : Dec (length s ≡ 18)
-      → ReaderTable s (frame.read_refusal (reading_of s).verdict) (frame.read_tells (reading_of s).verdict)
+      → ReaderTable s (frame.read_refusal (read_of s)) (frame.read_tells (read_of s))
   reader_row (yes e) = rw (verdict_is e) (read_frame e)
   reader_row (no w) = rw (verdict_not w) (read_length w)
 
@@ -109,11 +107,11 @@ reader_numbers s k t = (at_row (ReaderTable s) (reader_row s (ℕ_discrete (leng
 
 module _ (r : Record) (n : ℕ) where
   writer_row : (a : Written) → WriterGives r n a → WriterTable r n (frame.refusal_of a) (frame.tells_of a)
-  writer_row Written.WrongLength w = write_length w
-  writer_row (Written.TooLarge f) (e, l) = write_index f e l
-  writer_row (Written.Falling m) (e, fit, l) = write_fall m e fit l
-  writer_row Written.Expansion (e, fit, o, s) = write_expansion e fit o s
-  writer_row Written.Frame (e, fit, o, s) = write_frame e fit o s
+  writer_row (Err Refusal.WrongLength) w = write_length w
+  writer_row (Err (Refusal.TooLarge f)) (e, l) = write_index f e l
+  writer_row (Err (Refusal.Falling m)) (e, fit, l) = write_fall m e fit l
+  writer_row (Err Refusal.Expansion) (e, fit, o, s) = write_expansion e fit o s
+  writer_row (Ok frame) (e, fit, o, s) = write_frame e fit o s
 
   writer_is : (a : Written) → WriterGives r n a → written_of r n ≡ a
   unfolding WriterRefuses
@@ -121,12 +119,12 @@ module _ (r : Record) (n : ℕ) where
 
   writer_at : {k : ℕ} {t : List ℕ} → WriterTable r n k t → (frame.refusal_of (written_of r n) ≡ k)
       × (frame.tells_of (written_of r n) ≡ t)
-  writer_at (write_length w) = told frame.refusal_of frame.tells_of (writer_is Written.WrongLength w)
-  writer_at (write_index f e l) = told frame.refusal_of frame.tells_of (writer_is (Written.TooLarge f) (e, l))
-  writer_at (write_fall m e fit l) = told frame.refusal_of frame.tells_of (writer_is (Written.Falling m) (e, fit, l))
+  writer_at (write_length w) = told frame.refusal_of frame.tells_of (writer_is (Err Refusal.WrongLength) w)
+  writer_at (write_index f e l) = told frame.refusal_of frame.tells_of (writer_is (Err (Refusal.TooLarge f)) (e, l))
+  writer_at (write_fall m e fit l) = told frame.refusal_of frame.tells_of (writer_is (Err (Refusal.Falling m)) (e, fit, l))
   writer_at (write_expansion e fit o s) = told frame.refusal_of frame.tells_of
-      (writer_is Written.Expansion (e, fit, o, s))
-  writer_at (write_frame e fit o s) = told frame.refusal_of frame.tells_of (writer_is Written.Frame (e, fit, o, s))
+      (writer_is (Err Refusal.Expansion) (e, fit, o, s))
+  writer_at (write_frame e fit o s) = told frame.refusal_of frame.tells_of (writer_is (Ok tt) (e, fit, o, s))
 
 pub writer_numbers : WriterNumbers
 unfolding WriterNumbers WriterRefuses
@@ -164,22 +162,22 @@ hearing_numbers r before k t = (
 )
 
 module _ (indices : List ℕ) where
-  abbrev verdict_told : lsp-verdict.Verdict
-  verdict_told = (hertz_of indices).verdict
+  abbrev verdict_told : Result (List ℕ) lsp-refusal.Refusal
+  verdict_told = hertz_of indices
 
-  hertz_row : (v : lsp-verdict.Verdict) → HertzGives indices v
+  hertz_row : (v : Result (List ℕ) lsp-refusal.Refusal) → HertzGives indices v
       → HertzTable indices (hertz.refusal_of v) (hertz.tells_of v)
-  hertz_row (Lsp.TooLarge j) l = hertz_index j l
-  hertz_row Lsp.Within w = hertz_values w
+  hertz_row (Err (Lsp.TooLarge j)) l = hertz_index j l
+  hertz_row (Ok hz) w = hertz_values w.0
 
-  hertz_is : (v : lsp-verdict.Verdict) → HertzGives indices v → verdict_told ≡ v
+  hertz_is : (v : Result (List ℕ) lsp-refusal.Refusal) → HertzGives indices v → verdict_told ≡ v
   unfolding HertzRefuses
   hertz_is v g = (hertz_refuses indices v).1 g
 
   hertz_at : {k : ℕ} {t : List ℕ} → HertzTable indices k t
       → (hertz.refusal_of verdict_told ≡ k) × (hertz.tells_of verdict_told ≡ t)
-  hertz_at (hertz_index j l) = told hertz.refusal_of hertz.tells_of (hertz_is (Lsp.TooLarge j) l)
-  hertz_at (hertz_values w) = told hertz.refusal_of hertz.tells_of (hertz_is Lsp.Within w)
+  hertz_at (hertz_index j l) = told hertz.refusal_of hertz.tells_of (hertz_is (Err (Lsp.TooLarge j)) l)
+  hertz_at (hertz_values w) = told hertz.refusal_of hertz.tells_of (hertz_is (Ok _) (w, refl))
 
 pub hertz_numbers : HertzNumbers
 unfolding HertzNumbers HertzRefuses
@@ -190,21 +188,22 @@ hertz_numbers indices k t = (
 )
 
 module _ (a b c d : ℕ) where
-  abbrev meant : Meant
+  abbrev meant : Result (List ℕ) CodeRefusal
   meant = meant_by (a ∷ b ∷ c ∷ d ∷ [])
 
-  meaning_row : (m : Meant) → MeaningGives a b c d m → MeaningTable a b c d (delay.meant_refusal m) (delay.meant_tells m)
-  meaning_row (Meant.TooLarge n) l = meaning_index n l
-  meaning_row (Meant.Delays w x y z) m = meaning_delays w x y z m
+  meaning_row : (m : Result (List ℕ) CodeRefusal) → MeaningGives a b c d m → MeaningTable a b c d (delay.meant_refusal m) (delay.meant_tells m)
+  meaning_row (Err (Meant.TooLarge n)) l = meaning_index n l
+  meaning_row (Ok (w ∷ x ∷ y ∷ z ∷ [])) m = meaning_delays w x y z m
+  meaning_row (Ok _) m = absurd m
 
-  meaning_is : (m : Meant) → MeaningGives a b c d m → meant ≡ m
+  meaning_is : (m : Result (List ℕ) CodeRefusal) → MeaningGives a b c d m → meant ≡ m
   unfolding MeaningRefuses
   meaning_is m g = (meaning_refuses a b c d m).1 g
 
   meaning_at : {k : ℕ} {t : List ℕ} → MeaningTable a b c d k t → (delay.meant_refusal meant ≡ k)
       × (delay.meant_tells meant ≡ t)
-  meaning_at (meaning_index n l) = told delay.meant_refusal delay.meant_tells (meaning_is (Meant.TooLarge n) l)
-  meaning_at (meaning_delays w x y z m) = told delay.meant_refusal delay.meant_tells (meaning_is (Meant.Delays w x y z) m)
+  meaning_at (meaning_index n l) = told delay.meant_refusal delay.meant_tells (meaning_is (Err (Meant.TooLarge n)) l)
+  meaning_at (meaning_delays w x y z m) = told delay.meant_refusal delay.meant_tells (meaning_is (Ok (w ∷ x ∷ y ∷ z ∷ [])) m)
 
 pub meaning_numbers : MeaningNumbers
 unfolding MeaningNumbers MeaningRefuses
@@ -214,22 +213,23 @@ meaning_numbers a b c d k t = (
 )
 
 module _ (a b c d : ℕ) where
-  abbrev coded : Coded
+  abbrev coded : Result (List ℕ) DelayRefusal
   coded = coded_of (a ∷ b ∷ c ∷ d ∷ [])
 
-  delay_row : (x : Coded) → CodingGives a b c d x → DelayTable a b c d (delay.refusal_of x) (delay.tells_of x)
-  delay_row (NotListed n) g = delay_unlisted n g
-  delay_row (OutsideWindow n) g = delay_outside n g
-  delay_row (Codes i j k l) g = delay_codes i j k l g
+  delay_row : (x : Result (List ℕ) DelayRefusal) → CodingGives a b c d x → DelayTable a b c d (delay.refusal_of x) (delay.tells_of x)
+  delay_row (Err (NotListed n)) g = delay_unlisted n g
+  delay_row (Err (OutsideWindow n)) g = delay_outside n g
+  delay_row (Ok (i ∷ j ∷ k ∷ l ∷ [])) g = delay_codes i j k l g
+  delay_row (Ok _) g = absurd g
 
-  delay_is : (x : Coded) → CodingGives a b c d x → coded ≡ x
+  delay_is : (x : Result (List ℕ) DelayRefusal) → CodingGives a b c d x → coded ≡ x
   unfolding DelaysRefuse
   delay_is x g = (delays_refuse a b c d x).1 g
 
   delay_at : {k : ℕ} {t : List ℕ} → DelayTable a b c d k t → (delay.refusal_of coded ≡ k) × (delay.tells_of coded ≡ t)
-  delay_at (delay_unlisted n g) = told delay.refusal_of delay.tells_of (delay_is (NotListed n) g)
-  delay_at (delay_outside n g) = told delay.refusal_of delay.tells_of (delay_is (OutsideWindow n) g)
-  delay_at (delay_codes i j k l g) = told delay.refusal_of delay.tells_of (delay_is (Codes i j k l) g)
+  delay_at (delay_unlisted n g) = told delay.refusal_of delay.tells_of (delay_is (Err (NotListed n)) g)
+  delay_at (delay_outside n g) = told delay.refusal_of delay.tells_of (delay_is (Err (OutsideWindow n)) g)
+  delay_at (delay_codes i j k l g) = told delay.refusal_of delay.tells_of (delay_is (Ok (i ∷ j ∷ k ∷ l ∷ [])) g)
 
 pub delay_numbers : DelayNumbers
 unfolding DelayNumbers DelaysRefuse
@@ -239,20 +239,20 @@ delay_numbers a b c d k t = (
 )
 
 module _ (index n : ℕ) where
-  code_row : (a : code_written.Written) → CodeGives index n a → CodeTable index n (code.refusal_of a) (code.tells_of a)
-  code_row Code.WrongLength w = code_length w
-  code_row Code.TooLarge (e, h) = code_index e h
-  code_row Code.Code (e, h) = code_elements e h
+  code_row : (a : Result (Unit {0}) code_refusal.Refusal) → CodeGives index n a → CodeTable index n (code.refusal_of a) (code.tells_of a)
+  code_row (Err Code.WrongLength) w = code_length w
+  code_row (Err Code.TooLarge) (e, h) = code_index e h
+  code_row (Ok u) (e, h) = code_elements e h
 
-  code_is : (a : code_written.Written) → CodeGives index n a → code.written_of index n ≡ a
+  code_is : (a : Result (Unit {0}) code_refusal.Refusal) → CodeGives index n a → code.written_of index n ≡ a
   unfolding CodeRefuses
   code_is a g = (code_refuses index n a).1 g
 
   code_at : {k : ℕ} {t : List ℕ} → CodeTable index n k t → (code.refusal_of (code.written_of index n) ≡ k)
       × (code.tells_of (code.written_of index n) ≡ t)
-  code_at (code_length w) = told code.refusal_of code.tells_of (code_is Code.WrongLength w)
-  code_at (code_index e h) = told code.refusal_of code.tells_of (code_is Code.TooLarge (e, h))
-  code_at (code_elements e h) = told code.refusal_of code.tells_of (code_is Code.Code (e, h))
+  code_at (code_length w) = told code.refusal_of code.tells_of (code_is (Err Code.WrongLength) w)
+  code_at (code_index e h) = told code.refusal_of code.tells_of (code_is (Err Code.TooLarge) (e, h))
+  code_at (code_elements e h) = told code.refusal_of code.tells_of (code_is (Ok tt) (e, h))
 
 pub code_numbers : CodeNumbers
 unfolding CodeNumbers CodeRefuses
@@ -294,9 +294,9 @@ module _ (s : List ℕ) where
   recording_row : RecordingTable s (judged_refusal (judged_of s)) (judged_tells (judged_of s))
   recording_row = go (judged_of s) refl
     where
-      go : (j : Judged) → judged_of s ≡ j → RecordingTable s (judged_refusal (judged_of s)) (judged_tells (judged_of s))
-      go (Judged.Sound x) e = rw e (sound ((sound_exactly s).0 (x, e)))
-      go (Judged.Refused c) e = rw e (cause_row c ((refused_exactly s c).0 e))
+      go : (j : Result Summary Cause) → judged_of s ≡ j → RecordingTable s (judged_refusal (judged_of s)) (judged_tells (judged_of s))
+      go (Ok x) e = rw e (sound ((sound_exactly s).0 (x, e)))
+      go (Err c) e = rw e (cause_row c ((refused_exactly s c).0 e))
 
   refused_at : (c : Cause) → Given s c → (judged_refusal (judged_of s) ≡ refusal_of c)
       × (judged_tells (judged_of s) ≡ tells_of c)
@@ -323,13 +323,13 @@ module _ (s : List ℕ) where
       go : (x : Ending) → (walked_of s).ending ≡ x
           → (judged_refusal (judged_of s) ≡ walked_refusal (walked_of s))
           × (judged_tells (judged_of s) ≡ walked_tells (walked_of s))
-      go Ending.Sound e = (
-        ap judged_refusal (walked_judged s Ending.Sound e) ∙ sym (ap ending_refusal e),
-        ap judged_tells (walked_judged s Ending.Sound e) ∙ sym (ap ending_tells e),
+      go (Ok _) e = (
+        ap judged_refusal (walked_judged s (Ok tt) e) ∙ sym (ap ending_refusal e),
+        ap judged_tells (walked_judged s (Ok tt) e) ∙ sym (ap ending_tells e),
       )
-      go (Ending.Refused c) e = (
-        ap judged_refusal (walked_judged s (Ending.Refused c) e) ∙ sym (ap ending_refusal e),
-        ap judged_tells (walked_judged s (Ending.Refused c) e) ∙ sym (ap ending_tells e),
+      go (Err c) e = (
+        ap judged_refusal (walked_judged s (Err c) e) ∙ sym (ap ending_refusal e),
+        ap judged_tells (walked_judged s (Err c) e) ∙ sym (ap ending_tells e),
       )
 
 pub recording_numbers : RecordingNumbers
@@ -399,25 +399,25 @@ module _ (s o : List ℕ) where
   -- one of the lengths wrong: -1
   c_write_short : ((length s ≡ 56) × (length o ≡ 18) → ⊥) → Dec (length s ≡ 56)
       → write_result s (length o) ≡ neg_ℤ (pos 1)
-  c_write_short w (yes l) = c_write_is Written.WrongLength l (λ e. w (l, e))
+  c_write_short w (yes l) = c_write_is (Err Refusal.WrongLength) l (λ e. w (l, e))
   c_write_short w (no v) = c_write_not v
 
   -- each row's condition gives its result
   c_write_at : {z : ℤ} → WriteResults s o z → write_result s (length o) ≡ z
   c_write_at (c_write_length w) = c_write_short w (ℕ_discrete (length s) 56)
-  c_write_at (c_write_index f l e g) = c_write_is (Written.TooLarge f) l (e, g)
-  c_write_at (c_write_fall m l e fit g) = c_write_is (Written.Falling m) l (e, fit, g)
-  c_write_at (c_write_expansion l e fit order sp) = c_write_is Written.Expansion l (e, fit, order, sp)
-  c_write_at (c_write_frame l e fit order sp) = c_write_is Written.Frame l (e, fit, order, sp)
+  c_write_at (c_write_index f l e g) = c_write_is (Err (Refusal.TooLarge f)) l (e, g)
+  c_write_at (c_write_fall m l e fit g) = c_write_is (Err (Refusal.Falling m)) l (e, fit, g)
+  c_write_at (c_write_expansion l e fit order sp) = c_write_is (Err Refusal.Expansion) l (e, fit, order, sp)
+  c_write_at (c_write_frame l e fit order sp) = c_write_is (Ok tt) l (e, fit, order, sp)
 
   -- each answer has a row
   c_given : (a : Written) → length s ≡ 56 → WriterGives (record_in s) (length o) a
       → WriteResults s o (refused (frame.refusal_of a))
-  c_given Written.WrongLength l w = c_write_length (λ p. w p.1)
-  c_given (Written.TooLarge f) l (e, g) = c_write_index f l e g
-  c_given (Written.Falling m) l (e, fit, g) = c_write_fall m l e fit g
-  c_given Written.Expansion l (e, fit, order, sp) = c_write_expansion l e fit order sp
-  c_given Written.Frame l (e, fit, order, sp) = c_write_frame l e fit order sp
+  c_given (Err Refusal.WrongLength) l w = c_write_length (λ p. w p.1)
+  c_given (Err (Refusal.TooLarge f)) l (e, g) = c_write_index f l e g
+  c_given (Err (Refusal.Falling m)) l (e, fit, g) = c_write_fall m l e fit g
+  c_given (Err Refusal.Expansion) l (e, fit, order, sp) = c_write_expansion l e fit order sp
+  c_given (Ok frame) l (e, fit, order, sp) = c_write_frame l e fit order sp
 
   -- each result has a row
   c_write_row : Dec (length s ≡ 56) → WriteResults s o (write_result s (length o))

@@ -2,7 +2,8 @@
 -- is met.
 -- Assumes nothing.
 use mathlib.Core.Path.{◌≡◌, ◌∙◌, sym, refl, ap, subst}
-use mathlib.Core.Bool.{Bool, true, false, cond, true≢false}
+use mathlib.Core.Bool.{Bool, true, false, true≢false}
+use Rattle.std.specs.Prelude.{Option, None, Some, Ok, Err}
 use mathlib.Core.List.{List, [], ◌∷◌}
 use Prim.Native.Nat.{ℕ, ◌-◌, ◌<◌, ◌≤◌}
 use native.Mathlib.Omega.{arith}
@@ -17,32 +18,29 @@ use Rattle.record.specs.declared.Record.{Record}
 use Rattle.record.proofs.Laws.{none_too_large, all_fit_none_too_large, lowest_too_large, too_large_at}
 use Rattle.delays.specs.Table.{twelfths_of, printed_byte, rank_with}
 use Rattle.delays.specs.Codes.{after_of, meant_by, coded_of, listed, in_window, base_of}
-use Rattle.delays.specs.declared.Meant.{Meant}
-use Rattle.delays.specs.declared.Meant.TheVariants as Meant
-use Rattle.delays.specs.declared.Coded.{Coded}
-use Rattle.delays.specs.declared.Coded.TheVariants.{Codes, NotListed, OutsideWindow}
+use Rattle.delays.specs.declared.CodeRefusal.{CodeRefusal}
+use Rattle.delays.specs.declared.CodeRefusal.TheVariants as Meant
+use Rattle.delays.specs.declared.DelayRefusal.{DelayRefusal}
+use Rattle.delays.specs.declared.DelayRefusal.TheVariants.{NotListed, OutsideWindow}
+use Rattle.std.specs.Prelude.{Result, Ok, Err}
 use Rattle.delays.proofs.Table.{rank_twelfths, twelfths_rank}
 use Rattle.delays.proofs.Laws.{Fit, fit_meant, after_below, after_in, window_step, codes_back, delays_back}
 use Rattle.delays.proofs.Pairs as codes
-use Rattle.lsp.specs.Table.{hertz_of}
+use Rattle.lsp.specs.Table.{hertz_of, hz_in}
 use Rattle.lsp.specs.Table as hertz
-use Rattle.lsp.specs.declared.Hertz.{Hertz}
-use Rattle.lsp.specs.declared.Verdict as lsp-verdict
-use Rattle.lsp.specs.declared.Verdict.TheVariants as Lsp
+use Rattle.lsp.specs.declared.Refusal as lsp-refusal
+use Rattle.lsp.specs.declared.Refusal.TheVariants as Lsp
 use Rattle.lsp.proofs.Laws.{mark_in_order, in_order_mark, mark_falls, falls_mark}
 use Rattle.lsp.proofs.Laws as lsps
 use Rattle.codebook.specs.Code as code
-use Rattle.codebook.specs.declared.Written as code_written
-use Rattle.codebook.specs.declared.Written.TheVariants as Code
+use Rattle.codebook.specs.declared.Refusal as code_refusal
+use Rattle.codebook.specs.declared.Refusal.TheVariants as Code
 use Rattle.frame.specs.Frame.{frame_of}
-use Rattle.frame.specs.Answers.{record_mark, reading_of, read_refusal, written_of, left_by, frame_left}
+use Rattle.frame.specs.Answers.{record_mark, read_of, read_refusal, Written, written_of, left_by, frame_left}
 use Rattle.frame.specs.Answers.{refusal_of}
 use Rattle.frame.specs.declared.Reading.{Reading}
-use Rattle.frame.specs.declared.Verdict.{Verdict}
-use Rattle.frame.specs.declared.Verdict.TheVariants as Verdict
-use Rattle.frame.specs.declared.Written.{Written}
-use Rattle.frame.specs.declared.Written.TheVariants as Written
-use Rattle.frame.proofs.Answered.{read_eighteen, read_refused, wrong_length, too_large, falling, expansion, accepted}
+use Rattle.frame.specs.declared.Refusal.TheVariants as Refusal
+use Rattle.frame.proofs.Answered.{some_read, none_read, wrong_length, too_large, falling, expansion, accepted}
 use Rattle.values.specs.Values.{sync_state, values_of}
 use Rattle.values.specs.declared.State.{State}
 use Rattle.values.specs.Outcome.{outcome_of}
@@ -72,14 +70,12 @@ pub reader_refuses : ReaderRefuses
 unfolding ReaderRefuses
 reader_refuses s = (short, told)
   where
-    short : read_refusal (reading_of s).verdict ≡ 1 → length s ≡ 18 → ⊥
+    short : read_refusal (read_of s) ≡ 1 → length s ≡ 18 → ⊥
     short e long =
-        let z : read_refusal (reading_of s).verdict ≡ 0 =
-        ap (λ (x : Reading). read_refusal x.verdict) (read_eighteen s long) in
-        omega arith
+        let z : read_refusal (read_of s) ≡ 0 = ap read_refusal (sym (some_read s long refl)) in omega arith
 
-    told : (length s ≡ 18 → ⊥) → read_refusal (reading_of s).verdict ≡ 1
-    told w = ap (λ (x : Reading). read_refusal x.verdict) (sym (read_refused s w))
+    told : (length s ≡ 18 → ⊥) → read_refusal (read_of s) ≡ 1
+    told w = ap read_refusal (sym (none_read s w))
 
 -- what `too_large_field` and the mark tell of a record, in the words of the conditions
 module _ (r : Record) where
@@ -94,22 +90,22 @@ module _ (r : Record) where
 
   ordered : record_mark r ≡ 0 → Ordered r
   unfolding record_mark
-  ordered e = mark_in_order (hertz_of r.lsp).hz e
+  ordered e = mark_in_order (hz_in (hertz_of r.lsp)) e
 
   mark_zero : Ordered r → record_mark r ≡ 0
   unfolding record_mark
-  mark_zero o = in_order_mark (hertz_of r.lsp).hz o
+  mark_zero o = in_order_mark (hz_in (hertz_of r.lsp)) o
 
   lowest_fall : (record_mark r ≡ 0 → ⊥) → LowestFall r (record_mark r)
   unfolding record_mark
   lowest_fall w =
       let one : 1 ≤ record_mark r = omega (arith, w) in
-      let m = mark_falls (hertz_of r.lsp).hz (record_mark r) refl one in
+      let m = mark_falls (hz_in (hertz_of r.lsp)) (record_mark r) refl one in
       record { from = one; upto = m.0; here = m.1; lower = m.2 }
 
   fall_is : (m : ℕ) → LowestFall r m → record_mark r ≡ m
   unfolding record_mark
-  fall_is m l = falls_mark (hertz_of r.lsp).hz m l.from l.upto l.here l.lower
+  fall_is m l = falls_mark (hz_in (hertz_of r.lsp)) m l.from l.upto l.here l.lower
 
 -- the writer
 module _ (r : Record) (n : ℕ) where
@@ -137,16 +133,16 @@ module _ (r : Record) (n : ℕ) where
       sized (no w) = subst (WriterGives r n) (wrong_length r n w) w
 
   writer_only : (a : Written) → WriterGives r n a → written_of r n ≡ a
-  writer_only Written.WrongLength w = sym (wrong_length r n w)
-  writer_only (Written.TooLarge f) (e, l) =
+  writer_only (Err Refusal.WrongLength) w = sym (wrong_length r n w)
+  writer_only (Err (Refusal.TooLarge f)) (e, l) =
       let f-from = l.from in
       sym (too_large r n e f (sym (large_is r f l)) (λ z. omega (arith, f-from, z)))
-  writer_only (Written.Falling m) (e, fit, l) =
+  writer_only (Err (Refusal.Falling m)) (e, fit, l) =
       let m-from = l.from in
       sym (falling r n e (all_fit_none_too_large r fit) m (sym (fall_is r m l)) (λ z. omega (arith, m-from, z)))
-  writer_only Written.Expansion (e, fit, o, s) =
+  writer_only (Err Refusal.Expansion) (e, fit, o, s) =
       sym (expansion r n e (all_fit_none_too_large r fit) (mark_zero r o) (λ z. omega (arith, s, z)))
-  writer_only Written.Frame (e, fit, o, s) = sym (accepted r n e (all_fit_none_too_large r fit) (mark_zero r o) s)
+  writer_only (Ok frame) (e, fit, o, s) = sym (accepted r n e (all_fit_none_too_large r fit) (mark_zero r o) s)
 
 pub writer_refuses : WriterRefuses
 unfolding WriterRefuses
@@ -154,11 +150,8 @@ writer_refuses r n a = (λ e. subst (WriterGives r n) e (writer_gives r n), writ
 
 -- a refusal of the writer leaves what the buffer held
 refused_left : (a : Written) (new old : List ℕ) → (refusal_of a ≡ 0 → ⊥) → left_by a new old ≡ old
-refused_left Written.Frame new old w = absurd (w refl)
-refused_left Written.WrongLength new old w = refl
-refused_left (Written.TooLarge f) new old w = refl
-refused_left (Written.Falling m) new old w = refl
-refused_left Written.Expansion new old w = refl
+refused_left (Ok frame) new old w = absurd (w refl)
+refused_left (Err why) new old w = refl
 
 pub refused_frame_stays : RefusedFrameStays
 unfolding RefusedFrameStays frame_left
@@ -205,7 +198,6 @@ expansion_keeps_sync r before six = go (outcome_of r) refl (ap outcome.refusal_o
     alone : {after : State} → after ≡ sync_state before r.sy → SyncAlone before after r.sy
     alone e =
         record {
-          begun = ap (λ (t : State). t.begun) e;
           hz = ap (λ (t : State). t.hz) e;
           last = ap (λ (t : State). t.last) e;
         }
@@ -252,23 +244,22 @@ module _ (indices : List ℕ) where
       (λ m a b. rw (bits_are_widths (m - 1) (omega arith)) (l.lower m a b))
 
   -- the verdict meets its own condition
-  hertz_gives : HertzGives indices (hertz_of indices).verdict
+  hertz_gives : HertzGives indices (hertz_of indices)
   hertz_gives = fitting (ℕ_discrete (hertz.too_large_field indices) 0)
     where
-      fitting : Dec (hertz.too_large_field indices ≡ 0) → HertzGives indices (hertz_of indices).verdict
-      fitting (yes z) = subst (λ (h : Hertz). HertzGives indices h.verdict) (sym (lsps.hertz_given indices z))
-          (all_within z)
+      fitting : Dec (hertz.too_large_field indices ≡ 0) → HertzGives indices (hertz_of indices)
+      fitting (yes z) = subst (HertzGives indices) (sym (lsps.hertz_given indices z)) (all_within z, refl)
       fitting (no w) =
-          subst (λ (h : Hertz). HertzGives indices h.verdict) (sym (lsps.hertz_refused indices (omega (arith, w))))
+          subst (HertzGives indices) (sym (lsps.hertz_refused indices (omega (arith, w))))
           (lowest_over w)
 
   -- and no other verdict's is met
-  hertz_only : (v : lsp-verdict.Verdict) → HertzGives indices v → (hertz_of indices).verdict ≡ v
-  hertz_only Lsp.Within w = ap (λ (h : Hertz). h.verdict) (lsps.hertz_given indices (within_none w))
-  hertz_only (Lsp.TooLarge j) l =
+  hertz_only : (v : Result (List ℕ) lsp-refusal.Refusal) → HertzGives indices v → hertz_of indices ≡ v
+  hertz_only (Ok hz) w = lsps.hertz_given indices (within_none w.0) ∙ ap Ok w.1
+  hertz_only (Err (Lsp.TooLarge j)) l =
       let e = over_is j l in
       let one = l.from in
-      ap (λ (h : Hertz). h.verdict) (lsps.hertz_refused indices (omega (arith, e, one))) ∙ ap Lsp.TooLarge e
+      lsps.hertz_refused indices (omega (arith, e, one)) ∙ ap (λ (k : ℕ). Err (Lsp.TooLarge k)) e
 
 pub hertz_refuses : HertzRefuses
 unfolding HertzRefuses
@@ -281,7 +272,7 @@ module _ (a b c d : ℕ) where
   codes_given = a ∷ b ∷ c ∷ d ∷ []
 
   -- the first code that is too large is told
-  large_only : {n : ℕ} → FirstTooLarge a b c d n → meant_by codes_given ≡ Meant.TooLarge n
+  large_only : {n : ℕ} → FirstTooLarge a b c d n → meant_by codes_given ≡ Err (Meant.TooLarge n)
   unfolding meant_by
   large_only (first_large h) = sym (codes.first_large a b c d h)
   large_only (second_large e h) = sym (codes.second_large a b c d e h)
@@ -293,7 +284,7 @@ module _ (a b c d : ℕ) where
   fit_of e f g h = record { first = omega arith; second = omega arith; third = omega arith; fourth = omega arith }
 
   -- codes that fit mean what the definition says
-  means_only : {w x y z : ℕ} → Means a b c d w x y z → meant_by codes_given ≡ Meant.Delays w x y z
+  means_only : {w x y z : ℕ} → Means a b c d w x y z → meant_by codes_given ≡ Ok (w ∷ x ∷ y ∷ z ∷ [])
   unfolding meant_by
   means_only m =
       fit_meant a b c d (fit_of m.byte m.step m.next_byte m.next_step)
@@ -335,9 +326,10 @@ module _ (a b c d : ℕ) where
       one (yes e) = two e (dec_le b 63)
 
   -- and no other's is met
-  meaning_only : (m : Meant) → MeaningGives a b c d m → meant_by codes_given ≡ m
-  meaning_only (Meant.TooLarge n) l = large_only l
-  meaning_only (Meant.Delays w x y z) m = means_only m
+  meaning_only : (m : Result (List ℕ) CodeRefusal) → MeaningGives a b c d m → meant_by codes_given ≡ m
+  meaning_only (Err (Meant.TooLarge n)) l = large_only l
+  meaning_only (Ok (w ∷ x ∷ y ∷ z ∷ [])) m = means_only m
+  meaning_only (Ok _) m = absurd m
 
 pub meaning_refuses : MeaningRefuses
 unfolding MeaningRefuses
@@ -408,43 +400,43 @@ module _ (a b c d : ℕ) where
   delays_given = a ∷ b ∷ c ∷ d ∷ []
 
   -- the answer, test by test
-  refused_first : listed a ≡ false → coded_of delays_given ≡ NotListed 1
+  refused_first : listed a ≡ false → coded_of delays_given ≡ Err (NotListed 1)
   unfolding coded_of
   refused_first e = rw e
 
   -- the second is not listed
-  refused_second : listed a ≡ true → listed b ≡ false → coded_of delays_given ≡ NotListed 2
+  refused_second : listed a ≡ true → listed b ≡ false → coded_of delays_given ≡ Err (NotListed 2)
   unfolding coded_of
   refused_second e f = rw (e, f)
 
   -- the second is outside the window of the first
   outside_second : listed a ≡ true → listed b ≡ true → in_window (rank_with a) (rank_with b) ≡ false
-      → coded_of delays_given ≡ OutsideWindow 2
+      → coded_of delays_given ≡ Err (OutsideWindow 2)
   unfolding coded_of
   outside_second e f g = rw (e, f, g)
 
   module _ (one : listed a ≡ true) (two : listed b ≡ true) (near : in_window (rank_with a) (rank_with b) ≡ true) where
-    refused_third : listed c ≡ false → coded_of delays_given ≡ NotListed 3
+    refused_third : listed c ≡ false → coded_of delays_given ≡ Err (NotListed 3)
     unfolding coded_of
     refused_third e = rw (one, two, near, e)
 
-    refused_fourth : listed c ≡ true → listed d ≡ false → coded_of delays_given ≡ NotListed 4
+    refused_fourth : listed c ≡ true → listed d ≡ false → coded_of delays_given ≡ Err (NotListed 4)
     unfolding coded_of
     refused_fourth e f = rw (one, two, near, e, f)
 
     outside_fourth : listed c ≡ true → listed d ≡ true → in_window (rank_with c) (rank_with d) ≡ false
-        → coded_of delays_given ≡ OutsideWindow 4
+        → coded_of delays_given ≡ Err (OutsideWindow 4)
     unfolding coded_of
     outside_fourth e f g = rw (one, two, near, e, f, g)
 
     all_sent : listed c ≡ true → listed d ≡ true → in_window (rank_with c) (rank_with d) ≡ true
-        → coded_of delays_given ≡ Codes (printed_byte (rank_with a)) (rank_with b - base_of (rank_with a))
-        (printed_byte (rank_with c)) (rank_with d - base_of (rank_with c))
+        → coded_of delays_given ≡ Ok (printed_byte (rank_with a) ∷ (rank_with b - base_of (rank_with a)) ∷
+        printed_byte (rank_with c) ∷ (rank_with d - base_of (rank_with c)) ∷ [])
     unfolding coded_of
     all_sent e f g = rw (one, two, near, e, f, g)
 
   -- the condition of an answer to these four
-  abbrev Given : Coded → Type 0
+  abbrev Given : Result (List ℕ) DelayRefusal → Type 0
   Given x = CodingGives a b c d x
 
   -- the answer is refused or sent as its condition says
@@ -493,7 +485,7 @@ module _ (a b c d : ℕ) where
       first true e = second e (listed b) refl
 
   -- where a delay is the first that is not listed it is refused with 4
-  not_listed_only : {n : ℕ} → FirstNotListed a b c d n → coded_of delays_given ≡ NotListed n
+  not_listed_only : {n : ℕ} → FirstNotListed a b c d n → coded_of delays_given ≡ Err (NotListed n)
   not_listed_only (first_unlisted w) = refused_first (unlisted_test a w)
   not_listed_only (second_unlisted p w) = refused_second (listed_test a p) (unlisted_test b w)
   not_listed_only (third_unlisted p q f w) = refused_third (listed_test a p) (listed_test b q) (follows_test a b q f)
@@ -502,17 +494,18 @@ module _ (a b c d : ℕ) where
       refused_fourth (listed_test a p) (listed_test b q) (follows_test a b q f) (listed_test c s) (unlisted_test d w)
 
   -- where one is the first outside its window it is refused with 5
-  outside_only : {n : ℕ} → FirstOutside a b c d n → coded_of delays_given ≡ OutsideWindow n
+  outside_only : {n : ℕ} → FirstOutside a b c d n → coded_of delays_given ≡ Err (OutsideWindow n)
   outside_only (second_outside p q w) = outside_second (listed_test a p) (listed_test b q) (outside_test a b q w)
   outside_only (fourth_outside p q f s t w) =
       outside_fourth (listed_test a p) (listed_test b q) (follows_test a b q f) (listed_test c s) (listed_test d t)
       (outside_test c d t w)
 
   -- so no answer is given whose condition is not met
-  coding_only : (x : Coded) → CodingGives a b c d x → coded_of delays_given ≡ x
-  coding_only (NotListed n) g = not_listed_only g
-  coding_only (OutsideWindow n) g = outside_only g
-  coding_only (Codes i j k l) g = codes_back i j k l a b c d g
+  coding_only : (x : Result (List ℕ) DelayRefusal) → CodingGives a b c d x → coded_of delays_given ≡ x
+  coding_only (Err (NotListed n)) g = not_listed_only g
+  coding_only (Err (OutsideWindow n)) g = outside_only g
+  coding_only (Ok (i ∷ j ∷ k ∷ l ∷ [])) g = codes_back i j k l g
+  coding_only (Ok _) g = absurd g
 
 pub delays_refuse : DelaysRefuse
 unfolding DelaysRefuse
@@ -531,21 +524,20 @@ code_gives index n = sized (ℕ_discrete n 60)
     sized (no w) = rw (ne_eqb n 60 w) w
 
 -- no answer is given whose condition is not met
-code_only : (index n : ℕ) (a : code_written.Written) → CodeGives index n a → code.written_of index n ≡ a
-code_only index n Code.WrongLength w = rw (ne_eqb n 60 w)
-code_only index n Code.TooLarge (e, h) = rw (eq-eqb n 60 e, lt-leb index 511 h)
-code_only index n Code.Code (e, h) = rw (eq-eqb n 60 e, le-leb index 511 h)
+code_only : (index n : ℕ) (a : Result (Unit {0}) code_refusal.Refusal) → CodeGives index n a → code.written_of index n ≡ a
+code_only index n (Err Code.WrongLength) w = rw (ne_eqb n 60 w)
+code_only index n (Err Code.TooLarge) (e, h) = rw (eq-eqb n 60 e, lt-leb index 511 h)
+code_only index n (Ok u) (e, h) = rw (eq-eqb n 60 e, le-leb index 511 h)
 
 pub code_refuses : CodeRefuses
 unfolding CodeRefuses
 code_refuses index n a = (λ e. subst (CodeGives index n) e (code_gives index n), code_only index n a)
 
 -- a refusal leaves what the buffer held
-code_left_lem : (a : code_written.Written) (index : ℕ) (l : List ℤ) → (code.refusal_of a ≡ 0 → ⊥) → code.left_after a index l
+code_left_lem : (a : Result (Unit {0}) code_refusal.Refusal) (index : ℕ) (l : List ℤ) → (code.refusal_of a ≡ 0 → ⊥) → code.left_after a index l
     ≡ l
-code_left_lem Code.Code index l w = absurd (w refl)
-code_left_lem Code.WrongLength index l w = refl
-code_left_lem Code.TooLarge index l w = refl
+code_left_lem (Ok u) index l w = absurd (w refl)
+code_left_lem (Err e) index l w = refl
 
 pub refused_code_stays : RefusedCodeStays
 unfolding RefusedCodeStays code.code_left
@@ -556,13 +548,13 @@ pub refused_read_stays : RefusedReadStays
 unfolding RefusedReadStays read_result record_left
 refused_read_stays s o = sized (eqb (length o) 56)
   where
-    told : (a : Reading) (v : Verdict) → a.verdict ≡ v → ((n : ℕ) → read_answer a ≡ pos n → ⊥) → read_into a o ≡ o
-    told a Verdict.Read e w = absurd (w (result_of a) (rw e))
-    told a Verdict.WrongLength e w = rw e
+    told : (a : Option Reading) → ((n : ℕ) → read_answer a ≡ pos n → ⊥) → read_into a o ≡ o
+    told (Some a) w = absurd (w (result_of a) refl)
+    told None w = refl
 
-    sized : (t : Bool) → ((n : ℕ) → unless t (refused 1) (read_answer (reading_of s)) ≡ pos n → ⊥)
-        → unless t o (read_into (reading_of s) o) ≡ o
-    sized true w = told (reading_of s) (reading_of s).verdict refl w
+    sized : (t : Bool) → ((n : ℕ) → unless t (refused 1) (read_answer (read_of s)) ≡ pos n → ⊥)
+        → unless t o (read_into (read_of s) o) ≡ o
+    sized true w = told (read_of s) w
     sized false w = refl
 
 pub refused_write_stays : RefusedWriteStays

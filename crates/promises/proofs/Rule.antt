@@ -9,6 +9,8 @@ use native.Mathlib.Decide.{ℕ_discrete, dec_lt, dec_le}
 use borrow.Author.Tests.{eq-eqb, ne_eqb, eqb-true, eqb-false, ltb-true, ltb-false, leb-true, leb-false, le-leb}
 use lib.Dec.{T, eqb, leb, ltb}
 use lib.ListN.{length, get_or}
+use Rattle.std.specs.Prelude.{Result, Ok, Err}
+use Rattle.std.specs.declared.ops.ControlFlow.TheVariants.{Continue, Break}
 use Rattle.laws.specs.Bytes.{word_at}
 use Rattle.laws.specs.Table.{both, all_below}
 use Rattle.laws.specs.Place.{place_in}
@@ -30,15 +32,11 @@ use Rattle.blocks.specs.declared.Cause.{Cause}
 use Rattle.blocks.specs.declared.Cause.TheVariants.{TooLong, HeaderCut, PastEnd, WrongSize, UnknownKind}
 use Rattle.blocks.specs.declared.Cause.TheVariants.{OutOfTurn, EndMissing, WrongCount, Extra}
 use Rattle.blocks.specs.declared.Block.{Block}
-use Rattle.blocks.specs.declared.Ending.{Ending}
-use Rattle.blocks.specs.declared.Ending.TheVariants.{Sound, Refused}
+use Rattle.blocks.specs.Walk.{Ending}
 use Rattle.blocks.specs.declared.Walked.{Walked}
 use Rattle.blocks.specs.declared.Walk.{Walk}
-use Rattle.blocks.specs.declared.Moved.{Moved}
-use Rattle.blocks.specs.declared.Moved.TheVariants.{On, Done}
+use Rattle.blocks.specs.Walk.{Moved}
 use Rattle.recording.specs.declared.Summary.{Summary}
-use Rattle.recording.specs.declared.Judged.{Judged}
-use Rattle.recording.specs.declared.Judged.TheVariants as Judged
 use Rattle.blocks.proofs.Blocks.{end_size}
 use Rattle.blocks.proofs.Walks as walks
 
@@ -197,9 +195,9 @@ module _ {kind : ℕ} where
 -- a step refuses by the first condition that is met, or passes a block at which none is
 data Seen (s : List ℕ) (w : Walk) : Moved → Type 0 where
   seen_refused : (c : Cause) → Condition s w c → ClearBefore s w (order c) → Seen s w (refuse c)
-  seen_head : NoneMet s w → kind_at s w.at ≡ 1 → Seen s w (On (past_head_of w (heading_at s w.at)))
-  seen_voice : NoneMet s w → kind_at s w.at ≡ 2 → Seen s w (On (past_voice_of w (size_at s w.at)))
-  seen_end : NoneMet s w → kind_at s w.at ≡ 3 → Seen s w (Done Sound)
+  seen_head : NoneMet s w → kind_at s w.at ≡ 1 → Seen s w (Continue (past_head_of w (heading_at s w.at)))
+  seen_voice : NoneMet s w → kind_at s w.at ≡ 2 → Seen s w (Continue (past_voice_of w (size_at s w.at)))
+  seen_end : NoneMet s w → kind_at s w.at ≡ 3 → Seen s w (Break (Ok tt))
 
 module _ (s : List ℕ) (w : Walk) (inside : w.at ≤ length s) (short : length s ≤ longest) where
   abbrev kind : ℕ
@@ -274,11 +272,11 @@ module _ (s : List ℕ) (w : Walk) (inside : w.at ≤ length s) (short : length 
             clean_end count h = clear_all s w (clear_more s w 8 (clear_count count) (λ q. omega (arith, q.2)))
 
         -- what a block of the right size does, by its kind
-        see_end : kind ≡ 3 → Seen s w (Done (ending_at (length s) w.at w.frames (word_at s (w.at + 6))))
+        see_end : kind ≡ 3 → Seen s w (Break (ending_at (length s) w.at w.frames (word_at s (w.at + 6))))
         see_end k =
-            chosen (λ (x : Ending). Seen s w (Done x)) (ltb 0 w.frames) (λ a.
-            chosen (λ (x : Ending). Seen s w (Done x)) (eqb (word_at s (w.at + 6)) w.frames) (λ b.
-            chosen (λ (x : Ending). Seen s w (Done x)) (eqb (length s) (w.at + 6 + 4)) (λ c.
+            chosen (λ (x : Ending). Seen s w (Break x)) (ltb 0 w.frames) (λ a.
+            chosen (λ (x : Ending). Seen s w (Break x)) (eqb (word_at s (w.at + 6)) w.frames) (λ b.
+            chosen (λ (x : Ending). Seen s w (Break x)) (eqb (length s) (w.at + 6 + 4)) (λ c.
             let e = eqb-true (length s) (w.at + 6 + 4) c in
             seen_end (clean_end (known_end k) (turn_end w k ∙ a) (eqb-true (word_at s (w.at + 6)) w.frames b)
             (omega (arith, e))) k)
@@ -294,19 +292,19 @@ module _ (s : List ℕ) (w : Walk) (inside : w.at ≤ length s) (short : length 
 
         see_kind : Seen s w (met s w (of_kind s w.at kind))
         see_kind =
-            chosen (λ (b : Block). Seen s w (met s w b)) (eqb kind 1) (λ a.
+            chosen (λ (b : Result Block Cause). Seen s w (met s w b)) (eqb kind 1) (λ a.
             let k : kind ≡ 1 = eqb-true kind 1 a in
             chosen (Seen s w) (not w.headed)
             (λ t. seen_head (clean_unless_end (known_head k) (turn_head w k ∙ t) (λ z. omega arith)) k)
             (λ t. see_turn (known_head k) (turn_head w k ∙ t)))
             (λ a.
-            chosen (λ (b : Block). Seen s w (met s w b)) (eqb kind 2) (λ b.
+            chosen (λ (b : Result Block Cause). Seen s w (met s w b)) (eqb kind 2) (λ b.
             let k : kind ≡ 2 = eqb-true kind 2 b in
             chosen (Seen s w) w.headed
             (λ t. seen_voice (clean_unless_end (known_voice k) (turn_voice w k ∙ t) (λ z. omega arith)) k)
             (λ t. see_turn (known_voice k) (turn_voice w k ∙ t)))
             (λ b.
-            chosen (λ (b : Block). Seen s w (met s w b)) (eqb kind 3) (λ c. see_end (eqb-true kind 3 c))
+            chosen (λ (b : Result Block Cause). Seen s w (met s w b)) (eqb kind 3) (λ c. see_end (eqb-true kind 3 c))
             (λ c.
             seen_refused (UnknownKind w.at) (
               refl,
@@ -320,12 +318,12 @@ module _ (s : List ℕ) (w : Walk) (inside : w.at ≤ length s) (short : length 
   seen : Seen s w (step_of s w)
   unfolding step_of block_at
   seen =
-      chosen (λ (b : Block). Seen s w (met s w b)) (ltb w.at (length s)) (λ a.
-      chosen (λ (b : Block). Seen s w (met s w b)) (leb (w.at + 6) (length s)) (λ b.
+      chosen (λ (b : Result Block Cause). Seen s w (met s w b)) (ltb w.at (length s)) (λ a.
+      chosen (λ (b : Result Block Cause). Seen s w (met s w b)) (leb (w.at + 6) (length s)) (λ b.
       let whole = leb-true (w.at + 6) (length s) b in
-      chosen (λ (b : Block). Seen s w (met s w b)) (leb (w.at + 6 + size) (length s)) (λ c.
+      chosen (λ (b : Result Block Cause). Seen s w (met s w b)) (leb (w.at + 6 + size) (length s)) (λ c.
       let fits = leb-true (w.at + 6 + size) (length s) c in
-      chosen (λ (b : Block). Seen s w (met s w b)) (right_size kind size) (see_kind whole fits)
+      chosen (λ (b : Result Block Cause). Seen s w (met s w b)) (right_size kind size) (see_kind whole fits)
       (λ r. seen_refused (WrongSize w.at size) (refl, refl, whole, r) (clear_past whole fits)))
       (λ c. seen_refused (PastEnd w.at) (refl, whole, leb-false (w.at + 6 + size) (length s) c)
       (clear_cut whole)))
@@ -338,9 +336,9 @@ module _ (s : List ℕ) (w : Walk) (inside : w.at ≤ length s) (short : length 
 
 -- what a step says of the walk: where it goes on, the next block is reached; where it ends, why
 Says : List ℕ → Walk → Moved → Type 0
-Says s w (On next) = Reached s w → Reached s next
-Says s w (Done Sound) = NoneMet s w × (kind_at s w.at ≡ 3)
-Says s w (Done (Refused c)) = Condition s w c × ClearBefore s w (order c)
+Says s w (Continue next) = Reached s w → Reached s next
+Says s w (Break (Ok _)) = NoneMet s w × (kind_at s w.at ≡ 3)
+Says s w (Break (Err c)) = Condition s w c × ClearBefore s w (order c)
 
 -- a step says what was seen
 says : (s : List ℕ) (w : Walk) (m : Moved) → Seen s w m → Says s w m
@@ -358,17 +356,17 @@ module _ (s : List ℕ) (short : length s ≤ longest) where
       walks.walked_keeps s (λ w. Reached s w × (w.at ≤ length s))
       (λ w next k o. (onto w next k o, (walks.step_further s w next o).within)) (at_first, omega arith)
     where
-      onto : (w next : Walk) → Reached s w × (w.at ≤ length s) → step_of s w ≡ On next → Reached s next
+      onto : (w next : Walk) → Reached s w × (w.at ≤ length s) → step_of s w ≡ Continue next → Reached s next
       onto w next k o = subst (Says s w) o (says s w (step_of s w) (seen s w k.1 short)) k.0
 
   -- so at the end
-  said : Says s (walked_of s).walk (Done (walked_of s).ending)
+  said : Says s (walked_of s).walk (Break (walked_of s).ending)
   said =
       subst (Says s (walked_of s).walk) (walks.walked_stops s short)
       (says s (walked_of s).walk (step_of s (walked_of s).walk) (seen s (walked_of s).walk kept.1 short))
 
 -- a refusal is given at the block where the walk stands
-refused_given : (s : List ℕ) (c : Cause) → (walked_of s).ending ≡ Refused c
+refused_given : (s : List ℕ) (c : Cause) → (walked_of s).ending ≡ Err c
     → (g : Given s c) × (g.walk ≡ (walked_of s).walk)
 unfolding Says
 refused_given s c e = go (dec_lt longest (length s))
@@ -386,15 +384,15 @@ refused_given s c e = go (dec_lt longest (length s))
           ap (λ (w : Walked). w.walk) i,
         )
     go (no l) =
-        let q = subst (λ (x : Ending). Says s (walked_of s).walk (Done x)) e (said s (omega arith)) in
+        let q = subst (λ (x : Ending). Says s (walked_of s).walk (Break x)) e (said s (omega arith)) in
         (record { walk = (walked_of s).walk; reached = (kept s (omega arith)).0; here = q.0; first = q.1 }, refl)
 
 -- a sound end is an end block at which no condition is met
-sound_accepted : (s : List ℕ) → (walked_of s).ending ≡ Sound → Accepted s
+sound_accepted : (s : List ℕ) → (walked_of s).ending ≡ Ok tt → Accepted s
 unfolding Says
 sound_accepted s e =
     let short = walks.sound_short s e in
-    let q = subst (λ (x : Ending). Says s (walked_of s).walk (Done x)) e (said s short) in
+    let q = subst (λ (x : Ending). Says s (walked_of s).walk (Break x)) e (said s short) in
     record { walk = (walked_of s).walk; reached = (kept s short).0; clean = q.0; end = q.1 }
 
 -- ---- from the block back to the answer
@@ -406,7 +404,7 @@ module _ (s : List ℕ) (short : length s ≤ longest) where
     within : w.at ≤ length s
 
   -- past one more block
-  onto_next : (w next : Walk) → Onto w → step_of s w ≡ On next → Onto next
+  onto_next : (w next : Walk) → Onto w → step_of s w ≡ Continue next → Onto next
   onto_next w next k o =
       record { rest = sym (walks.walk_on s w next o) ∙ k.rest; within = (walks.step_further s w next o).within }
 
@@ -433,49 +431,49 @@ module _ (s : List ℕ) (short : length s ≤ longest) where
       go before m o (seen_end _ j) = absurd (omega arith)
 
   -- and an end there is the end of the whole
-  ends : (w : Walk) (ending : Ending) → Reached s w → step_of s w ≡ Done ending → (walked_of s).ending ≡ ending
+  ends : (w : Walk) (ending : Ending) → Reached s w → step_of s w ≡ Break ending → (walked_of s).ending ≡ ending
   ends w ending r o =
       ap (λ (x : Walked). x.ending) (walks.walked_from s short ∙ sym (reached_onto w r).rest
       ∙ walks.walk_done s w ending o)
 
 -- where a refusal is given, the walk ends with it
-given_refused : (s : List ℕ) (c : Cause) → Given s c → (walked_of s).ending ≡ Refused c
+given_refused : (s : List ℕ) (c : Cause) → Given s c → (walked_of s).ending ≡ Err c
 unfolding cause_by
 given_refused s c g = go (dec_lt longest (length s))
   where
     at_block : length s ≤ longest → (m : Moved) → step_of s g.walk ≡ m → Seen s g.walk m
-        → (walked_of s).ending ≡ Refused c
+        → (walked_of s).ending ≡ Err c
     at_block short m o (seen_refused d q clear) =
-        ends s short g.walk (Refused d) g.reached o
-        ∙ ap Refused (first_alone s g.walk d c q clear g.here g.first)
+        ends s short g.walk (Err d) g.reached o
+        ∙ ap Err (first_alone s g.walk d c q clear g.here g.first)
     at_block short m o (seen_head clean k) = absurd (clean c g.here)
     at_block short m o (seen_voice clean k) = absurd (clean c g.here)
     at_block short m o (seen_end clean k) = absurd (clean c g.here)
 
-    long : longest < length s → Dec (order c ≡ 0) → (walked_of s).ending ≡ Refused c
+    long : longest < length s → Dec (order c ≡ 0) → (walked_of s).ending ≡ Err c
     long l (yes z) =
         ap (λ (x : Walked). x.ending) (sym (walks.too_long s l))
-        ∙ ap Refused (sym (named s g.walk c g.here ∙ ap (cause_by s g.walk) z))
+        ∙ ap Err (sym (named s g.walk c g.here ∙ ap (cause_by s g.walk) z))
     long l (no z) = absurd (g.first TooLong (omega arith) l)
 
-    go : Dec (longest < length s) → (walked_of s).ending ≡ Refused c
+    go : Dec (longest < length s) → (walked_of s).ending ≡ Err c
     go (yes l) = long l (ℕ_discrete (order c) 0)
     go (no l) =
         at_block (omega arith) (step_of s g.walk) refl
         (seen s g.walk (reached_onto s (omega arith) g.walk g.reached).within (omega arith))
 
 -- where an end block is accepted, the walk ends soundly
-accepted_sound : (s : List ℕ) → Accepted s → (walked_of s).ending ≡ Sound
+accepted_sound : (s : List ℕ) → Accepted s → (walked_of s).ending ≡ Ok tt
 accepted_sound s a = go (dec_lt longest (length s))
   where
     at_block : length s ≤ longest → (m : Moved) → step_of s a.walk ≡ m → Seen s a.walk m
-        → (walked_of s).ending ≡ Sound
+        → (walked_of s).ending ≡ Ok tt
     at_block short m o (seen_refused d q clear) = absurd (a.clean d q)
     at_block short m o (seen_head clean k) = absurd (let z = a.end in omega (arith, z))
     at_block short m o (seen_voice clean k) = absurd (let z = a.end in omega (arith, z))
-    at_block short m o (seen_end clean k) = ends s short a.walk Sound a.reached o
+    at_block short m o (seen_end clean k) = ends s short a.walk (Ok tt) a.reached o
 
-    go : Dec (longest < length s) → (walked_of s).ending ≡ Sound
+    go : Dec (longest < length s) → (walked_of s).ending ≡ Ok tt
     go (yes l) = absurd (a.clean TooLong l)
     go (no l) =
         at_block (omega arith) (step_of s a.walk) refl
@@ -484,25 +482,25 @@ accepted_sound s a = go (dec_lt longest (length s))
 -- ---- the rule
 
 -- a recording is judged as it is walked through
-pub judged_refused : (s : List ℕ) (c : Cause) → judged_of s ≡ Judged.Refused c → (walked_of s).ending ≡ Refused c
+pub judged_refused : (s : List ℕ) (c : Cause) → judged_of s ≡ Err c → (walked_of s).ending ≡ Err c
 unfolding judged_of
 judged_refused s c e = go (walked_of s).ending e
   where
-    go : (x : Ending) → judged_by x (summary_of (walked_of s).walk (counts_of fresh_state (frames_of s))) ≡ Judged.Refused c
-        → x ≡ Refused c
-    go Sound e = absurd (let z : ◌≡◌ {A = ℕ} 0 1 = cc in omega arith)
-    go (Refused d) e = let y : d ≡ c = cc in ap Refused y
+    go : (x : Ending) → judged_by x (summary_of (walked_of s).walk (counts_of fresh_state (frames_of s))) ≡ Err c
+        → x ≡ Err c
+    go (Ok _) e = absurd (let z : ◌≡◌ {A = ℕ} 0 1 = cc in omega arith)
+    go (Err d) e = let y : d ≡ c = cc in ap Err y
 
 -- sound, with what was passed and the counts
-pub judged_sound : (s : List ℕ) (x : Summary) → judged_of s ≡ Judged.Sound x
-    → ((walked_of s).ending ≡ Sound) × (x ≡ summary_of (walked_of s).walk (counts_of fresh_state (frames_of s)))
+pub judged_sound : (s : List ℕ) (x : Summary) → judged_of s ≡ Ok x
+    → ((walked_of s).ending ≡ Ok tt) × (x ≡ summary_of (walked_of s).walk (counts_of fresh_state (frames_of s)))
 unfolding judged_of
 judged_sound s x e = go (walked_of s).ending e
   where
-    go : (y : Ending) → judged_by y (summary_of (walked_of s).walk (counts_of fresh_state (frames_of s))) ≡ Judged.Sound x
-        → (y ≡ Sound) × (x ≡ summary_of (walked_of s).walk (counts_of fresh_state (frames_of s)))
-    go Sound e = (refl, cc)
-    go (Refused d) e = absurd (let z : ◌≡◌ {A = ℕ} 0 1 = cc in omega arith)
+    go : (y : Ending) → judged_by y (summary_of (walked_of s).walk (counts_of fresh_state (frames_of s))) ≡ Ok x
+        → (y ≡ Ok tt) × (x ≡ summary_of (walked_of s).walk (counts_of fresh_state (frames_of s)))
+    go (Ok _) e = (refl, cc)
+    go (Err d) e = absurd (let z : ◌≡◌ {A = ℕ} 0 1 = cc in omega arith)
 
 -- and the other way
 pub walked_judged : (s : List ℕ) (x : Ending) → (walked_of s).ending ≡ x
@@ -513,7 +511,7 @@ walked_judged s x e =
 
 pub refused_exactly : RefusedExactly
 refused_exactly s c =
-    (λ e. (refused_given s c (judged_refused s c e)).0, λ g. walked_judged s (Refused c) (given_refused s c g))
+    (λ e. (refused_given s c (judged_refused s c e)).0, λ g. walked_judged s (Err c) (given_refused s c g))
 
 -- what the block at a place tells, from the block at which its refusal is given
 module _ (s : List ℕ) (p : ℕ) where
@@ -547,4 +545,4 @@ refused_keeps = refused_given
 
 pub sound_exactly : SoundExactly
 sound_exactly s =
-    (λ e. sound_accepted s (judged_sound s e.0 e.1).0, λ a. (_, walked_judged s Sound (accepted_sound s a)))
+    (λ e. sound_accepted s (judged_sound s e.0 e.1).0, λ a. (_, walked_judged s (Ok tt) (accepted_sound s a)))

@@ -6,12 +6,12 @@ use Prim.Native.Nat.{ℕ, ◌+◌, ◌<◌}
 use native.Mathlib.Omega.{arith}
 use lib.ListN.{get_or, take}
 use lib.Seq.{get_or-take}
+use Rattle.std.specs.Prelude.{Ok}
 use Rattle.laws.specs.Bytes.{word_at}
 use Rattle.blocks.specs.Blocks.{heading_at}
 use Rattle.blocks.specs.Frames.{if_sound}
 use Rattle.blocks.specs.Walk.{after_head, walked_of}
-use Rattle.blocks.specs.declared.Ending.{Ending}
-use Rattle.blocks.specs.declared.Ending.TheVariants.{Sound}
+use Rattle.blocks.specs.Walk.{Ending}
 use Rattle.blocks.specs.declared.Heading.{Heading}
 use Rattle.blocks.proofs.Blocks.{head_held}
 use Rattle.blocks.proofs.Passed.{sound_whole}
@@ -19,9 +19,8 @@ use Rattle.salvage.specs.Promised.{SalvagedAccepted}
 use Rattle.salvage.specs.Salvaging.{result_of}
 use Rattle.salvage.proofs.Laws.{salvaged_accepted}
 use Rattle.tally.specs.Book.{tallied, book_then}
-use Rattle.tally.specs.Entering.{entry_of, recording_entry, entering_by, entering_of, book_after_recording, refusal_of}
-use Rattle.tally.specs.declared.Entering.TheVariants.{Done}
-use Rattle.tally.proofs.Laws.{accepted_again}
+use Rattle.tally.specs.Entering.{of_entry, entry_of, recording_entry, entering_by, entering_of, book_after_recording, refusal_of}
+use Rattle.tally.proofs.Laws.{same_number, accepted_again}
 use Rattle.promises.specs.Tally.{HeldAfter, SalvagedSameKey}
 
 -- the first bytes of two lists are the same
@@ -44,8 +43,8 @@ module _ (s w : List ℕ) (same : take (after_head 0) s ≡ take (after_head 0) 
   heading_same = λ i. record { unit = word_same 6 (omega arith) i; number = word_same 10 (omega arith) i }
 
 -- a sound recording is entered by its entry
-entered_sound : (s : List ℕ) (count : ℕ) → (walked_of s).ending ≡ Sound → (b : List ℕ)
-    → (entering_of b s count ≡ Done (tallied b (recording_entry s count)))
+entered_sound : (s : List ℕ) (count : ℕ) → (walked_of s).ending ≡ Ok tt → (b : List ℕ)
+    → (entering_of b s count ≡ of_entry (tallied b (recording_entry s count)))
     × (book_after_recording b s count ≡ book_then b (recording_entry s count))
 unfolding entering_of book_after_recording
 entered_sound s count e b = (
@@ -54,15 +53,16 @@ entered_sound s count e b = (
 )
 
 -- two sound recordings of one entry: the second is already held
-held_after : (first second : List ℕ) (count : ℕ) → (walked_of first).ending ≡ Sound → (walked_of second).ending ≡ Sound
+held_after : (first second : List ℕ) (count : ℕ) → (walked_of first).ending ≡ Ok tt → (walked_of second).ending ≡ Ok tt
     → recording_entry first count ≡ recording_entry second count → HeldAfter first second count
 held_after first second count p q same b book accepted =
     let f = entered_sound first count p b in
     let g = entered_sound second count q (book_after_recording b first count) in
     g.0
-    ∙ ap Done
+    ∙ ap of_entry
     (ap₂ tallied f.1 (sym same)
-    ∙ accepted_again b (recording_entry first count) book (sym (ap refusal_of f.0) ∙ accepted))
+    ∙ accepted_again b (recording_entry first count) book
+    (sym (same_number (tallied b (recording_entry first count))) ∙ sym (ap refusal_of f.0) ∙ accepted))
 
 pub salvaged_same_key : SalvagedSameKey
 unfolding SalvagedSameKey SalvagedAccepted recording_entry

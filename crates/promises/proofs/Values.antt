@@ -4,7 +4,7 @@ use mathlib.Core.Path.{◌≡◌, ◌∙◌, sym, refl, ap}
 use Prim.Native.Nat.{ℕ, ◌-◌, ◌<◌, ◌≤◌}
 use borrow.Author.Tests.{le-leb}
 use lib.IntN.{pos, ◌+ℤ◌}
-use lib.ListN.{get_or, length}
+use lib.ListN.{get_or}
 use Rattle.record.specs.Fields.{index_of, too_large_field}
 use Rattle.record.specs.declared.Record.{Record}
 use Rattle.record.proofs.Laws.{all_fit_none_too_large}
@@ -112,7 +112,7 @@ mark_heard r before told = heard_mark r before (heard r before told)
 
 pub averaged : Averaged
 unfolding Averaged
-averaged r before told was n j a b c d = later_averages r before (heard r before told) n j a b c d was
+averaged r before hz told was n j a b c d = later_averages r before (heard r before told) n j a b c d was
 
 pub first_averaged : FirstAveraged
 unfolding FirstAveraged
@@ -131,7 +131,6 @@ unfolding StateHolds
 state_holds r before told =
     let e = state_by r before (heard r before told) in
     record {
-      begun = ap (λ (t : State). t.begun) e;
       hz = ap (λ (t : State). t.hz) e;
       last = ap (λ (t : State). t.last) e;
     }

@@ -1,14 +1,12 @@
 -- The wider C boundary: "contracts that fix the result and every lent byte [..] Refusals are minus their number, as the
 -- reader's; what a refusal tells goes into a lent number where there is something to tell."
-use Rattle.std.specs.Prelude.{◌≡◌, List, [], ◌∷◌, ℕ, ℤ, pos, neg_ℤ, length}
+use Rattle.std.specs.Prelude.{◌≡◌, List, [], ◌∷◌, ℕ, ℤ, pos, neg_ℤ, length, Ok, Err}
 use Rattle.blocks.specs.Walk.{walked_of}
 use Rattle.blocks.specs.Refusals.{told_of, walked_refusal}
 use Rattle.blocks.specs.declared.Cause.{Cause}
-use Rattle.blocks.specs.declared.Ending.TheVariants as Ending
 use Rattle.kept.specs.Planning.{number_of}
 use Rattle.kept.specs.declared.Unsalvaged.{Unsalvaged}
 use Rattle.salvage.specs.Salvaging.{salvage_of, buffer_of}
-use Rattle.salvage.specs.declared.Salvaged.TheVariants.{Refused}
 use Rattle.tally.specs.Entering.{entering_of, book_after_recording, recording_entry}
 use Rattle.listing.specs.Listing.{room, listing_of, listed_of, listing_left}
 use Rattle.verdicts.specs.Verdicts.{cause_number, refusal_told, recording_told}
@@ -37,15 +35,15 @@ RefusedListStays =
 unfoldable pub RecordingTold : Type 0
 RecordingTold =
     (s : List ℕ)
-    → ((walked_of s).ending ≡ Ending.Sound → (count : ℕ)
+    → ((walked_of s).ending ≡ Ok tt → (count : ℕ)
     → recording_told s ≡ (recording_entry s count).unit ∷ (recording_entry s count).number ∷ 0 ∷ 0 ∷ 0 ∷ [])
-    × ((cause : Cause) → (walked_of s).ending ≡ Ending.Refused cause
+    × ((cause : Cause) → (walked_of s).ending ≡ Err cause
     → recording_told s ≡ refusal_told (told_of cause) (cause_number cause))
 
 -- a refused salvaging is minus its number, and leaves the buffer and the numbers
 unfoldable pub RefusedSalvageStays : Type 0
 RefusedSalvageStays =
-    (s o c : List ℕ) (why : Unsalvaged) → salvage_of s (length o) ≡ Refused why
+    (s o c : List ℕ) (why : Unsalvaged) → salvage_of s (length o) ≡ Err why
     → (salvage_result (salvage_of s (length o)) ≡ neg_ℤ (pos (number_of why))) × (buffer_of s o ≡ o)
     × (changes_left (salvage_of s (length o)) (length s) c ≡ c)
 

@@ -1,14 +1,12 @@
 -- What a sync break is, and what lost frames are counted as (document 02, K4: "One lost frame is one break").
-use Rattle.std.specs.Prelude.{◌≡◌, List, ◌++◌, ◌↔◌, ℕ, suc, ◌+◌, ◌%◌, ◌<◌, ◌≤◌, length, take, drop}
+use Rattle.std.specs.Prelude.{◌≡◌, List, ◌++◌, ◌↔◌, ℕ, suc, ◌+◌, ◌%◌, ◌<◌, ◌≤◌, length, take, drop, None, Some, Ok}
 use Rattle.frame.specs.Answers.{reading_of}
-use Rattle.values.specs.declared.LastSy.TheVariants.{Never, Was}
 use Rattle.values.specs.declared.State.{State}
 use Rattle.blocks.specs.Frames.{frames_of}
 use Rattle.passes.specs.Counted.{frame_at, break_at}
 use Rattle.passes.specs.Pass.{state_through}
 use Rattle.recording.specs.Judged.{judged_of}
 use Rattle.recording.specs.declared.Summary.{Summary}
-use Rattle.recording.specs.declared.Judged.TheVariants.{Sound}
 
 -- the SY of frame n, counted from 1
 abbrev pub sync_of : List (List ℕ) → ℕ → ℕ
@@ -17,8 +15,8 @@ sync_of frames n = (reading_of (frame_at frames n)).indices.sy
 -- frame n is a break, after a state, ours or not: "a frame whose SY equals that of the frame before it, or a first
 -- frame whose SY is 1"
 pub data Breaks (before : State) (frames : List (List ℕ)) : ℕ → Type 0 where
-  first_of_all : before.last ≡ Never → sync_of frames 1 ≡ 1 → Breaks before frames 1
-  first_here : before.last ≡ Was (sync_of frames 1) → Breaks before frames 1
+  first_of_all : before.last ≡ None → sync_of frames 1 ≡ 1 → Breaks before frames 1
+  first_here : before.last ≡ Some (sync_of frames 1) → Breaks before frames 1
   later : (n : ℕ) → 1 ≤ n → sync_of frames (suc n) ≡ sync_of frames n → Breaks before frames (suc n)
 
 -- what a frame adds to the count is 1 for a break and 0 for any other
@@ -32,22 +30,22 @@ BreakExactly =
 unfoldable pub SyncRunsOn : Type 0
 SyncRunsOn =
     (before : State) (s : List ℕ) (k : ℕ) → 1 ≤ k → k ≤ length (frames_of s)
-    → (state_through before (take k (frames_of s))).last ≡ Was (sync_of (frames_of s) k)
+    → (state_through before (take k (frames_of s))).last ≡ Some (sync_of (frames_of s) k)
 
 -- of any sound recording frames that follow each other can be left out, but not all: what is left are the frames of a
 -- sound recording
 unfoldable pub LeftOut : Type 0
 LeftOut =
-    (s : List ℕ) (x : Summary) → judged_of s ≡ Sound x → (k m : ℕ) → 1 ≤ m → k + m ≤ length (frames_of s)
+    (s : List ℕ) (x : Summary) → judged_of s ≡ Ok x → (k m : ℕ) → 1 ≤ m → k + m ≤ length (frames_of s)
     → m < length (frames_of s)
-    → (t : List ℕ) × (y : Summary) × (judged_of t ≡ Sound y)
+    → (t : List ℕ) × (y : Summary) × (judged_of t ≡ Ok y)
     × (frames_of t ≡ take k (frames_of s) ++ drop (k + m) (frames_of s))
 
 -- a recording without a break, of which the m frames after the first k were lost
 pub record Lost (s t : List ℕ) (k m : ℕ) (x y : Summary) : Type 0 where
-  pub whole : judged_of s ≡ Sound x
+  pub whole : judged_of s ≡ Ok x
   pub unbroken : x.counts.breaks ≡ 0
-  pub sound : judged_of t ≡ Sound y
+  pub sound : judged_of t ≡ Ok y
   pub without : frames_of t ≡ take k (frames_of s) ++ drop (k + m) (frames_of s)
 
 -- one that is neither the first nor the last: exactly one break

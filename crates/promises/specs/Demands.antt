@@ -12,7 +12,7 @@ use Rattle.excitation.specs.Promised.{ElementsAre, WithinRegister, ElementsWithi
 use Rattle.excitation.specs.Promised.{ByIndicesAlone, SilentIsCode}
 use Rattle.promises.specs.Frames.{ReadsBack, SameBits, DamageAlone, OneMended, TwoReported, EveryFrameRead}
 use Rattle.promises.specs.Frames.{OneFrame, SixteenFrames}
-use Rattle.promises.specs.Functions.{WriteThenRead, ReadThenWrite, RepairByDamage, OneFlip, TwoFlips, NoTwoFrames}
+use Rattle.promises.specs.Functions.{FramesAnswered, WriteThenRead, ReadThenWrite, RepairByDamage, OneFlip, TwoFlips, NoTwoFrames}
 use Rattle.promises.specs.Refused.{ReaderRefuses, WriterRefuses, RefusedFrameStays, RefusedReadStays}
 use Rattle.promises.specs.Refused.{RefusedWriteStays, HearingRefuses, RefusedStateStays, ExpansionKeepsSync}
 use Rattle.promises.specs.Refused.{NothingStays, HertzRefuses, MeaningRefuses, DelaysRefuse, CodeRefuses}
@@ -53,6 +53,7 @@ use Rattle.promises.specs.Excitation.{ExcitationRefuses, ExcitationNumbers}
 pub record DemandOne : Type 0 where
   -- frames, records, delays, codes
   pub every_frame_read : EveryFrameRead
+  pub frames_answered : FramesAnswered
   pub reader_refuses : ReaderRefuses
   pub writer_refuses : WriterRefuses
   pub hearing_refuses : HearingRefuses

@@ -1,6 +1,6 @@
 -- The second and the third demand for frames. Each statement is about the definitions that the contracts of
 -- `reader::read` and `writer::write` cite; proofs/Frames.antt shows each and carries it to the two functions.
-use Rattle.std.specs.Prelude.{◌≡◌, List, ◌↔◌, ℕ, ◌^◌, ◌<◌, ◌≤◌, length, get_or}
+use Rattle.std.specs.Prelude.{◌≡◌, List, ◌↔◌, ℕ, ◌^◌, ◌<◌, ◌≤◌, Some, Ok, length, get_or}
 use Rattle.std.specs.Int.Bits.{bit_xor}
 use Rattle.laws.specs.Tabulate.{tabulate}
 use Rattle.laws.specs.Total.{bit}
@@ -9,11 +9,9 @@ use Rattle.record.specs.declared.Record.{Record}
 use Rattle.frame.specs.Places.{field_of, bit_of}
 use Rattle.frame.specs.Parity.{guarded_name, guarded_place}
 use Rattle.frame.specs.Frame.{bit_at, frame_of}
-use Rattle.frame.specs.Answers.{reading_of, correction_number, written_of, frame_left}
+use Rattle.frame.specs.Answers.{reading_of, read_of, correction_number, written_of, frame_left}
 use Rattle.frame.specs.declared.Correction.TheVariants as Correction
 use Rattle.frame.specs.declared.Reading.{Reading}
-use Rattle.frame.specs.declared.Verdict.TheVariants as Verdict
-use Rattle.frame.specs.declared.Written.TheVariants as Written
 
 -- a value of the record type: ten parameters and sixteen subframe indices
 pub record Shaped (r : Record) : Type 0 where
@@ -28,14 +26,13 @@ pub record Eighteen (s : List ℕ) : Type 0 where
 -- "A record the writer accepts reads back equal": the same record, clean, order mark 0.
 unfoldable pub ReadsBack : Type 0
 ReadsBack =
-    (r : Record) (s : List ℕ) → Shaped r → written_of r (length s) ≡ Written.Frame
-    → reading_of (frame_left r s)
-    ≡ record { verdict = Verdict.Read; indices = r; correction = Correction.Clean; mark = 0 }
+    (r : Record) (s : List ℕ) → Shaped r → written_of r (length s) ≡ Ok tt
+    → read_of (frame_left r s) ≡ Some (record { indices = r; correction = Correction.Clean; mark = 0 })
 
 -- "A frame that is read writes back to the same bits exactly when its parity was clean, its expansion bit 0 and its
 -- parameters in order", whatever the lent buffer t held.
 pub record WritesBack (s t : List ℕ) : Type 0 where
-  pub accepted : written_of (reading_of s).indices (length t) ≡ Written.Frame
+  pub accepted : written_of (reading_of s).indices (length t) ≡ Ok tt
   pub same : frame_left (reading_of s).indices t ≡ s
 
 pub record Clean (s : List ℕ) : Type 0 where
@@ -49,7 +46,7 @@ SameBits = (s t : List ℕ) → Eighteen s → length t ≡ 18 → WritesBack s 
 -- w is the frame that our writer made of the record r
 pub record Made (r : Record) (w : List ℕ) : Type 0 where
   pub shaped : Shaped r
-  pub accepted : written_of r 18 ≡ Written.Frame
+  pub accepted : written_of r 18 ≡ Ok tt
   pub frame : frame_of r ≡ w
 
 -- a frame with some of its bits flipped: exclusive or, byte by byte
@@ -120,7 +117,7 @@ TwoReported =
 -- Every eighteen bytes have a reading, and no two frames have the same one: record and correction number together
 -- tell the frame.
 unfoldable pub EveryFrameRead : Type 0
-EveryFrameRead = (s : List ℕ) → Eighteen s → (reading_of s).verdict ≡ Verdict.Read
+EveryFrameRead = (s : List ℕ) → Eighteen s → read_of s ≡ Some (reading_of s)
 
 unfoldable pub OneFrame : Type 0
 OneFrame =

@@ -1,16 +1,13 @@
 -- The promises about frames said of the two functions themselves: of any answer and any bytes left that the contracts
 -- of `writer::write` and `reader::read` allow.
-use Rattle.std.specs.Prelude.{◌≡◌, List, ◌↔◌, ℕ, length}
+use Rattle.std.specs.Prelude.{◌≡◌, List, ◌↔◌, ℕ, Option, Some, Ok, length}
 use contract.Lifetimes.{Lfts}
 use denote.Triple.Clauses.{AtExit}
 use borrow.Fn.Kinds.{Dens, ended_of}
 use Rattle.record.specs.declared.Record.{Record}
-use Rattle.frame.specs.Answers.{correction_number}
+use Rattle.frame.specs.Answers.{reading_of, correction_number, Written}
 use Rattle.frame.specs.declared.Correction.TheVariants as Correction
 use Rattle.frame.specs.declared.Reading.{Reading}
-use Rattle.frame.specs.declared.Verdict.TheVariants as Verdict
-use Rattle.frame.specs.declared.Written.{Written}
-use Rattle.frame.specs.declared.Written.TheVariants as Written
 use Rattle.reader.proofs.read.Kinds as read
 use Rattle.reader.proofs.read.Reads as read-reads
 use Rattle.writer.proofs.write.Kinds as write
@@ -19,7 +16,7 @@ use Rattle.promises.specs.Frames.{Shaped, Eighteen, flipped, OfTheFlips, DataBit
 use Rattle.promises.specs.Frames.{ExactlyTwo}
 
 -- `read`, lent the bytes s, may answer d
-pub record Answers (s : List ℕ) (d : Reading) : Type 0 where
+pub record Answers (s : List ℕ) (d : Option Reading) : Type 0 where
   pub lifetimes : Lfts 1
   pub lent : Dens lifetimes read.ps
   pub at_exit : AtExit (ended_of 1 read.ps read.r) lifetimes
@@ -36,27 +33,31 @@ pub record Leaves (r : Record) (s : List ℕ) (a : Written) (t : List ℕ) : Typ
   pub left : at_exit.1.0.now ≡ t
   pub allowed : write-reads.Post lifetimes lent a at_exit
 
+-- what `read` answers on eighteen bytes is a reading
+unfoldable pub FramesAnswered : Type 0
+FramesAnswered = (s : List ℕ) (d : Option Reading) → Eighteen s → Answers s d → d ≡ Some (reading_of s)
+
 -- what `read` answers on the bytes that `write` left
 unfoldable pub WriteThenRead : Type 0
 WriteThenRead =
-    (r : Record) (s t : List ℕ) (d : Reading) → Shaped r → Leaves r s Written.Frame t → Answers t d
-    → d ≡ record { verdict = Verdict.Read; indices = r; correction = Correction.Clean; mark = 0 }
+    (r : Record) (s t : List ℕ) (d : Option Reading) → Shaped r → Leaves r s (Ok tt) t → Answers t d
+    → d ≡ Some (record { indices = r; correction = Correction.Clean; mark = 0 })
 
 -- what `write` leaves of the record that `read` answered: the same bytes exactly when the reading was clean
 unfoldable pub ReadThenWrite : Type 0
 ReadThenWrite =
-    (s t u : List ℕ) (d : Reading) (a : Written) → Eighteen s → length t ≡ 18 → Answers s d → Leaves d.indices t a u
-    → ((a ≡ Written.Frame) × (u ≡ s)) ↔ ((correction_number d ≡ 0) × (d.indices.sp ≡ 0) × (d.mark ≡ 0))
+    (s t u : List ℕ) (d : Reading) (a : Written) → Eighteen s → length t ≡ 18 → Answers s (Some d) → Leaves d.indices t a u
+    → ((a ≡ Ok tt) × (u ≡ s)) ↔ ((correction_number d ≡ 0) × (d.indices.sp ≡ 0) × (d.mark ≡ 0))
 
 -- a frame w that `write` left of the record r, the flips e, and what `read` answers on the flips alone and on the
 -- flipped frame
 pub record Damaged (r : Record) (w e : List ℕ) (alone damaged : Reading) : Type 0 where
   pub shaped : Shaped r
   pub buffer : List ℕ
-  pub leaves : Leaves r buffer Written.Frame w
+  pub leaves : Leaves r buffer (Ok tt) w
   pub flips : Eighteen e
-  pub reads_alone : Answers e alone
-  pub reads_damaged : Answers (flipped w e) damaged
+  pub reads_alone : Answers e (Some alone)
+  pub reads_damaged : Answers (flipped w e) (Some damaged)
 
 -- in each of the 28 fields the index read is the written one, exclusive or that of the flips alone; the correction, and
 -- so its number, is that of the flips alone
@@ -79,5 +80,5 @@ TwoFlips =
 -- two frames of which `read` answers the same record and number are the same bytes
 unfoldable pub NoTwoFrames : Type 0
 NoTwoFrames =
-    (s t : List ℕ) (c d : Reading) → Eighteen s → Eighteen t → Answers s c → Answers t d
+    (s t : List ℕ) (c d : Reading) → Eighteen s → Eighteen t → Answers s (Some c) → Answers t (Some d)
     → c.indices ≡ d.indices → correction_number c ≡ correction_number d → s ≡ t

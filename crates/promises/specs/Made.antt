@@ -1,5 +1,5 @@
 -- The format described once, by how its bytes are made (`Made` of blocks); what is sound is what is made so.
-use Rattle.std.specs.Prelude.{◌≡◌, List, ℕ, length}
+use Rattle.std.specs.Prelude.{◌≡◌, List, ℕ, length, Ok}
 use Rattle.values.specs.Values.{fresh_state}
 use Rattle.blocks.specs.Frames.{payloads_of, frames_in}
 use Rattle.blocks.specs.Made.{MadeFrom, Bytes}
@@ -7,7 +7,6 @@ use Rattle.blocks.specs.declared.Heading.{Heading}
 use Rattle.passes.specs.Counted.{counts_of}
 use Rattle.recording.specs.Judged.{judged_of}
 use Rattle.recording.specs.declared.Summary.{Summary}
-use Rattle.recording.specs.declared.Judged.TheVariants.{Sound}
 
 -- what is said of a recording made so
 abbrev pub made_summary : Heading → List (List ℕ) → Summary
@@ -18,11 +17,11 @@ made_summary heading ps =
 abbrev pub MadeIsSound : Type 0
 MadeIsSound =
     (s : List ℕ) (heading : Heading) (ps : List (List ℕ)) → MadeFrom s heading ps
-    → (judged_of s ≡ Sound (made_summary heading ps)) × (payloads_of s ≡ ps)
+    → (judged_of s ≡ Ok (made_summary heading ps)) × (payloads_of s ≡ ps)
 
 -- and every byte string that is sound is made so
 abbrev pub SoundIsMade : Type 0
-SoundIsMade = (s : List ℕ) (x : Summary) → Bytes s → judged_of s ≡ Sound x → MadeFrom s x.heading (payloads_of s)
+SoundIsMade = (s : List ℕ) (x : Summary) → Bytes s → judged_of s ≡ Ok x → MadeFrom s x.heading (payloads_of s)
 
 -- so no byte string means two recordings
 abbrev pub NoTwo : Type 0

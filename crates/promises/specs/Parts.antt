@@ -1,6 +1,6 @@
 -- What is shown of the parts of a recording: where its voice blocks stand, that their frames are all its frames, and
 -- its counts.
-use Rattle.std.specs.Prelude.{◌≡◌, List, [], ◌∷◌, ◌++◌, ℕ, suc, ◌+◌, ◌*◌, ◌%◌, ◌<◌, ◌≤◌, length, get_or, take}
+use Rattle.std.specs.Prelude.{◌≡◌, List, [], ◌∷◌, ◌++◌, ℕ, suc, ◌+◌, ◌*◌, ◌%◌, ◌<◌, ◌≤◌, length, get_or, take, Ok, Err}
 use Rattle.laws.specs.Total.{total}
 use Rattle.frame.specs.Answers.{reading_of}
 use Rattle.values.specs.Values.{fresh_state}
@@ -13,7 +13,6 @@ use Rattle.recording.specs.Judged.{judged_of}
 use Rattle.blocks.specs.declared.Cause.{Cause}
 use Rattle.blocks.specs.declared.Cause.TheVariants.{EndMissing}
 use Rattle.recording.specs.declared.Summary.{Summary}
-use Rattle.recording.specs.declared.Judged.TheVariants.{Sound, Refused}
 
 -- where the k-th payload begins: after the head, the voice blocks before it and its own header
 abbrev pub payload_place : List (List ℕ) → ℕ → ℕ
@@ -54,26 +53,26 @@ FramesFit = (s : List ℕ) → 18 * length (frames_of s) ≤ length s
 
 -- the end block's number is their count
 abbrev pub EndCounts : Type 0
-EndCounts = (s : List ℕ) (x : Summary) → judged_of s ≡ Sound x → x.frames ≡ length (frames_of s)
+EndCounts = (s : List ℕ) (x : Summary) → judged_of s ≡ Ok x → x.frames ≡ length (frames_of s)
 
 -- the counts are sums over all frame numbers, counted from 1: 1 for a repaired frame, which is one whose correction is
 -- a data hit, or for a break, from a fresh state on (Breaks.antt says what a break is)
 abbrev pub RepairsCounted : Type 0
 RepairsCounted =
-    (s : List ℕ) (x : Summary) → judged_of s ≡ Sound x
+    (s : List ℕ) (x : Summary) → judged_of s ≡ Ok x
     → x.counts.repaired ≡ total (λ n. repair_by (reading_of (frame_at (frames_of s) n))) (length (frames_of s))
 
 abbrev pub BreaksCounted : Type 0
 BreaksCounted =
-    (s : List ℕ) (x : Summary) → judged_of s ≡ Sound x
+    (s : List ℕ) (x : Summary) → judged_of s ≡ Ok x
     → x.counts.breaks ≡ total (break_at fresh_state (frames_of s)) (length (frames_of s))
 
 -- a refused recording has no voice block, also none before the damage, and no frame
 abbrev pub RefusedHasNone : Type 0
 RefusedHasNone =
-    (s : List ℕ) (c : Cause) → judged_of s ≡ Refused c
+    (s : List ℕ) (c : Cause) → judged_of s ≡ Err c
     → ((k : ℕ) → (span_of s k ≡ nowhere) × (voice_block_of s k ≡ [])) × (frames_of s ≡ [])
 
 -- an empty recording is refused 8 at 0
 abbrev pub EmptyRefused : Type 0
-EmptyRefused = judged_of [] ≡ Refused (EndMissing 0)
+EmptyRefused = judged_of [] ≡ Err (EndMissing 0)

@@ -11,7 +11,7 @@ use Rattle.delays.specs.Codes as delay
 use Rattle.lsp.specs.Table.{hertz_of}
 use Rattle.lsp.specs.Table as hertz
 use Rattle.codebook.specs.Code as code
-use Rattle.frame.specs.Answers.{reading_of, correction_number, written_of}
+use Rattle.frame.specs.Answers.{reading_of, read_of, correction_number, written_of}
 use Rattle.frame.specs.Answers as frame
 use Rattle.values.specs.Outcome as hearing
 use Rattle.values.specs.Values.{values_of}
@@ -35,8 +35,7 @@ pub data ReaderTable (s : List ℕ) : ℕ → List ℕ → Type 0 where
 unfoldable pub ReaderNumbers : Type 0
 ReaderNumbers =
     (s : List ℕ) (k : ℕ) (t : List ℕ)
-    → ((frame.read_refusal (reading_of s).verdict ≡ k) × (frame.read_tells (reading_of s).verdict ≡ t)) ↔ ReaderTable s k
-    t
+    → ((frame.read_refusal (read_of s) ≡ k) × (frame.read_tells (read_of s) ≡ t)) ↔ ReaderTable s k t
 
 -- a record to write, into a buffer of n bytes
 pub data WriterTable (r : Record) (n : ℕ) : ℕ → List ℕ → Type 0 where
@@ -71,7 +70,7 @@ pub data HertzTable (indices : List ℕ) : ℕ → List ℕ → Type 0 where
 unfoldable pub HertzNumbers : Type 0
 HertzNumbers =
     (indices : List ℕ) (k : ℕ) (t : List ℕ)
-    → ((hertz.refusal_of (hertz_of indices).verdict ≡ k) × (hertz.tells_of (hertz_of indices).verdict ≡ t)) ↔ HertzTable
+    → ((hertz.refusal_of (hertz_of indices) ≡ k) × (hertz.tells_of (hertz_of indices) ≡ t)) ↔ HertzTable
     indices k t
 
 -- four codes to hear; that of subframe n is field 10 + 4(n-1) + 1

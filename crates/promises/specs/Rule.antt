@@ -1,6 +1,6 @@
 -- When a recording is refused, and by which refusal (document 01, "Refusal numbers"; document 02, K1): each is given
 -- exactly when its condition is met and none earlier is.
-use Rattle.std.specs.Prelude.{◌≡◌, Bool, true, false, not, cond, List, [], ◌∷◌, ◌↔◌, ℕ, ◌+◌, ◌<◌, ◌≤◌, eqb, ltb, length}
+use Rattle.std.specs.Prelude.{◌≡◌, Bool, true, false, not, cond, List, [], ◌∷◌, ◌↔◌, ℕ, ◌+◌, ◌<◌, ◌≤◌, eqb, ltb, length, Err, Ok}
 use Rattle.laws.specs.Bytes.{word_at}
 use Rattle.laws.specs.Place.{place_in}
 use Rattle.blocks.specs.Blocks.{size_at, kind_at, right_size, heading_at}
@@ -10,10 +10,8 @@ use Rattle.blocks.specs.Refusals.{refusal_of}
 use Rattle.blocks.specs.declared.Cause.{Cause}
 use Rattle.blocks.specs.declared.Cause.TheVariants.{TooLong, HeaderCut, PastEnd, WrongSize, UnknownKind}
 use Rattle.blocks.specs.declared.Cause.TheVariants.{OutOfTurn, EndMissing, WrongCount, Extra}
-use Rattle.blocks.specs.declared.Ending.TheVariants as Ending
 use Rattle.blocks.specs.declared.Walk.{Walk}
 use Rattle.recording.specs.declared.Summary.{Summary}
-use Rattle.recording.specs.declared.Judged.TheVariants.{Sound, Refused}
 
 -- the kinds that there are
 unfoldable pub known_kind : ℕ → Bool
@@ -92,7 +90,7 @@ pub record Accepted (s : List ℕ) : Type 0 where
   pub end : kind_at s walk.at ≡ 3
 
 abbrev pub RefusedExactly : Type 0
-RefusedExactly = (s : List ℕ) (c : Cause) → (judged_of s ≡ Refused c) ↔ Given s c
+RefusedExactly = (s : List ℕ) (c : Cause) → (judged_of s ≡ Err c) ↔ Given s c
 
 -- what 9, 10 and 11 tell of the bytes from the place on: they are fewer than a header; the header is whole, and its
 -- length runs past the end; the header and its payload are whole, and the size that is told is the header's and wrong
@@ -100,15 +98,15 @@ RefusedExactly = (s : List ℕ) (c : Cause) → (judged_of s ≡ Refused c) ↔ 
 abbrev pub BlockFaultsTold : Type 0
 BlockFaultsTold =
     (s : List ℕ) (p size : ℕ)
-    → (judged_of s ≡ Refused (HeaderCut p) → (p < length s) × (length s < p + 6))
-    × (judged_of s ≡ Refused (PastEnd p) → (p + 6 ≤ length s) × (length s < p + 6 + size_at s p))
-    × (judged_of s ≡ Refused (WrongSize p size)
+    → (judged_of s ≡ Err (HeaderCut p) → (p < length s) × (length s < p + 6))
+    × (judged_of s ≡ Err (PastEnd p) → (p + 6 ≤ length s) × (length s < p + 6 + size_at s p))
+    × (judged_of s ≡ Err (WrongSize p size)
     → (size ≡ size_at s p) × (p + 6 + size ≤ length s) × (right_size (kind_at s p) size ≡ false))
 
 -- the walk that is answered with a refusal stands at a block at which it is given: what was passed before it is kept
 abbrev pub RefusedKeeps : Type 0
 RefusedKeeps =
-    (s : List ℕ) (c : Cause) → (walked_of s).ending ≡ Ending.Refused c → (g : Given s c) × (g.walk ≡ (walked_of s).walk)
+    (s : List ℕ) (c : Cause) → (walked_of s).ending ≡ Err c → (g : Given s c) × (g.walk ≡ (walked_of s).walk)
 
 abbrev pub SoundExactly : Type 0
-SoundExactly = (s : List ℕ) → ((x : Summary) × (judged_of s ≡ Sound x)) ↔ Accepted s
+SoundExactly = (s : List ℕ) → ((x : Summary) × (judged_of s ≡ Ok x)) ↔ Accepted s

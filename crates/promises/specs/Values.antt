@@ -1,6 +1,6 @@
 -- The second demand for what indices mean: "the gains, delays, averaged parameters and 512 ternary codes", over the
 -- definitions that the contracts cite. That the tables are the printed ones is what EVIDENCE compares.
-use Rattle.std.specs.Prelude.{◌≡◌, true, false, List, [], ◌∷◌, ◌⊎◌, ◌↔◌, ℕ, ◌+◌, ◌-◌, ◌*◌, ◌<◌, ◌≤◌, ℤ, pos, neg_ℤ, ◌+ℤ◌, ◌*ℤ◌, get_or, length}
+use Rattle.std.specs.Prelude.{◌≡◌, List, [], ◌∷◌, ◌⊎◌, ◌↔◌, ℕ, ◌+◌, ◌-◌, ◌*◌, ◌<◌, ◌≤◌, ℤ, pos, neg_ℤ, ◌+ℤ◌, ◌*ℤ◌, get_or, length, None, Some, Ok}
 use Rattle.std.specs.Int.{w16}
 use Rattle.std.proofs.Common.{SFits}
 use Rattle.record.specs.Fields.{index_of}
@@ -9,8 +9,6 @@ use Rattle.gains.specs.Tables.{cg_table, pg_table}
 use Rattle.gains.specs.Nearest.{nearest_of, Nearest}
 use Rattle.delays.specs.Table.{twelfths_of, printed_byte, rank_of}
 use Rattle.delays.specs.Codes.{after_of, meant_by, coded_of}
-use Rattle.delays.specs.declared.Meant.TheVariants.{Delays}
-use Rattle.delays.specs.declared.Coded.TheVariants.{Codes}
 use Rattle.lsp.specs.Table.{column, lsp}
 use Rattle.lsp.specs.Order.{mark_of, InOrder}
 use Rattle.codebook.specs.Book.{book}
@@ -18,7 +16,6 @@ use Rattle.codebook.specs.Code.{code_of}
 use Rattle.draws.specs.Draw.{position_of, wrapped, kept_at, draw_of}
 use Rattle.draws.specs.declared.Generator.{Generator}
 use Rattle.values.specs.Values.{cg_index, pg_index, pd_index, present_of, used_of, fresh_state, values_of}
-use Rattle.values.specs.declared.LastSy.TheVariants.{Never, Was}
 use Rattle.values.specs.declared.State.{State}
 use Rattle.values.specs.declared.Outcome.TheVariants.{Heard}
 use Rattle.promises.specs.Refused.{AllFit}
@@ -50,7 +47,7 @@ unfoldable pub DelaysComeBack : Type 0
 DelaysComeBack =
     (i j k l : ℕ) → i < 256 → j < 64 → k < 256 → l < 64
     → (w : ℕ) × (x : ℕ) × (y : ℕ) × (z : ℕ)
-    × (meant_by (i ∷ j ∷ k ∷ l ∷ []) ≡ Delays w x y z) × (coded_of (w ∷ x ∷ y ∷ z ∷ []) ≡ Codes i j k l)
+    × (meant_by (i ∷ j ∷ k ∷ l ∷ []) ≡ Ok (w ∷ x ∷ y ∷ z ∷ [])) × (coded_of (w ∷ x ∷ y ∷ z ∷ []) ≡ Ok (i ∷ j ∷ k ∷ l ∷ []))
 
 -- "Both ends of the list have fixed windows" (3.5.5): after delays up to 29.25 samples the 64 codes mean 20 to 38.33,
 -- after delays from 115 on 84 to 147.
@@ -78,7 +75,7 @@ DelaysHeard =
     → let delays = (values_of r before).delays in
     (length delays ≡ 4)
     × (meant_by (pd_index r 1 ∷ pd_index r 2 ∷ pd_index r 3 ∷ pd_index r 4 ∷ [])
-    ≡ Delays (get_or delays 0 0) (get_or delays 1 0) (get_or delays 2 0) (get_or delays 3 0))
+    ≡ Ok (get_or delays 0 0 ∷ get_or delays 1 0 ∷ get_or delays 2 0 ∷ get_or delays 3 0 ∷ []))
 
 -- LSP j in Hz is the entry of its own column at the record's own index, whenever the record's indices fit their fields
 -- (it may be refused for its SP); and it is this one that is used.
@@ -102,27 +99,26 @@ average r before n j = get_or (values_of r before).averages (10 * (n - 1) + (j -
 
 unfoldable pub Averaged : Type 0
 Averaged =
-    (r : Record) (before : State) → (values_of r before).outcome ≡ Heard → before.begun ≡ true
+    (r : Record) (before : State) (hz : List ℕ) → (values_of r before).outcome ≡ Heard → before.hz ≡ Some hz
     → (n j : ℕ) → 1 ≤ n → n ≤ 4 → 1 ≤ j → j ≤ 10
-    → average r before n j ≡ (9 - 2 * n) * lsp before.hz j + (2 * n - 1) * lsp (used_of r before) j
+    → average r before n j ≡ (9 - 2 * n) * lsp hz j + (2 * n - 1) * lsp (used_of r before) j
 
 unfoldable pub FirstAveraged : Type 0
 FirstAveraged =
-    (r : Record) (before : State) → (values_of r before).outcome ≡ Heard → before.begun ≡ false
+    (r : Record) (before : State) → (values_of r before).outcome ≡ Heard → before.hz ≡ None
     → (n j : ℕ) → 1 ≤ n → n ≤ 4 → 1 ≤ j → j ≤ 10 → average r before n j ≡ 8 * lsp (used_of r before) j
 
 -- our fresh state is one of them, and "says there was none" of the last SY (document 02, K4); the state after a frame
 -- is not, and holds the LSPs that were used and the frame's SY
 unfoldable pub FreshNotBegun : Type 0
-FreshNotBegun = fresh_state.begun ≡ false
+FreshNotBegun = fresh_state.hz ≡ None
 
 unfoldable pub FreshHasNoSync : Type 0
-FreshHasNoSync = fresh_state.last ≡ Never
+FreshHasNoSync = fresh_state.last ≡ None
 
 pub record Kept (r : Record) (before : State) : Type 0 where
-  pub begun : (values_of r before).state.begun ≡ true
-  pub hz : (values_of r before).state.hz ≡ used_of r before
-  pub last : (values_of r before).state.last ≡ Was r.sy
+  pub hz : (values_of r before).state.hz ≡ Some (used_of r before)
+  pub last : (values_of r before).state.last ≡ Some r.sy
 
 unfoldable pub StateHolds : Type 0
 StateHolds = (r : Record) (before : State) → (values_of r before).outcome ≡ Heard → Kept r before

@@ -9,7 +9,7 @@ use Rattle.gains.specs.Tables.{minus, cg_table, pg_table}
 use Rattle.gains.specs.Nearest.{nearest_of}
 use Rattle.delays.specs.Table.{printed_byte, rank_with}
 use Rattle.delays.specs.Codes.{meant_by}
-use Rattle.lsp.specs.Table.{hertz_of}
+use Rattle.lsp.specs.Table.{hertz_of, hz_in}
 use Rattle.lsp.specs.Order.{mark_of}
 use Rattle.lsp.specs.Average.{averages_of}
 use Rattle.draws.specs.Draw.{draws, fresh_generator}
@@ -52,7 +52,7 @@ byte_means byte = get_or (delays_in (meant_by (byte ∷ 0 ∷ 0 ∷ 0 ∷ []))) 
 
 -- ten LSPs in Hz with LSP 4 at index 12 and LSP 5 at a given one, no lower pair falling
 abbrev pub fifth_at : ℕ → List ℕ
-fifth_at index = (hertz_of (0 ∷ 0 ∷ 0 ∷ 12 ∷ index ∷ 7 ∷ 7 ∷ 7 ∷ 7 ∷ 7 ∷ [])).hz
+fifth_at index = hz_in (hertz_of (0 ∷ 0 ∷ 0 ∷ 12 ∷ index ∷ 7 ∷ 7 ∷ 7 ∷ 7 ∷ 7 ∷ []))
 
 unfoldable pub worked_numbers : List Worked
 worked_numbers =

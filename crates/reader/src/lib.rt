@@ -6,39 +6,28 @@
 ghost use Rattle.std.specs.Prelude.{◌≡◌, ◌+◌, ◌*◌, ◌<◌, length};
 ghost use Rattle.laws.specs.Tabulate.{tabulate};
 ghost use Rattle.frame.specs.Frame.{bit_at, index_in};
-ghost use Rattle.frame.specs.Answers.{reading_of};
+ghost use Rattle.frame.specs.Answers.{read_of};
 ghost use Rattle.frame.specs.Steps.{entries, indices_up_to, record_by};
 
-use frame::{Correction, Reading, Verdict};
+use frame::Reading;
 use record::Record;
 
-// Reads a frame.
-pub fn read(frame: &[u8]) -> Reading
-    ensures { result ≡ reading_of frame.now }
+// Reads a frame; of bytes that are not eighteen nothing.
+pub fn read(frame: &[u8]) -> Option<Reading>
+    ensures { result ≡ read_of frame.now }
 {
     if frame.len() != 18 {
-        return Reading {
-            verdict: Verdict::WrongLength,
-            indices: Record {
-                lsp: [0u16; 10],
-                subframes: [0u16; 16],
-                sp: 0,
-                sy: 0,
-            },
-            correction: Correction::Clean,
-            mark: 0,
-        };
+        return None;
     }
     let received = gather(frame);
     let correction = parity::correction_of(parity::number_of(received));
     let indices = to_record(parity::mend(received, correction));
     let mark = marks::mark_of(indices);
-    Reading {
-        verdict: Verdict::Read,
+    Some(Reading {
         indices,
         correction,
         mark,
-    }
+    })
 }
 
 // The indices in a frame, uncorrected, by field number.
@@ -48,10 +37,8 @@ fn gather(frame: &[u8]) -> [u16; 29]
 {
     let table = frame::table();
     let mut fields = [0u16; 29];
-    let mut n = 0;
-    while n < 18 {
+    for n in 0..18 {
         add_byte(frame, n, &table, &mut fields);
-        n += 1;
     }
     fields
 }
@@ -66,12 +53,10 @@ fn add_byte(frame: &[u8], n: usize, table: &[u16], fields: &mut [u16])
 {
     let byte = frame[n];
     let from = 8 * n;
-    let mut q = 0;
-    while q < 8 {
+    for q in 0..8 {
         let entry = table[from + q];
         let f = (entry / 16) as usize;
         fields[f] += (((byte >> (7 - q)) % 2) as u16) << (entry % 16);
-        q += 1;
     }
 }
 
@@ -80,17 +65,9 @@ fn to_record(fields: [u16; 29]) -> Record
     ensures { result ≡ record_by fields }
 {
     let mut lsp = [0u16; 10];
-    let mut k = 0;
-    while k < 10 {
-        lsp[k] = fields[k + 1];
-        k += 1;
-    }
+    lsp.copy_from_slice(&fields[1..11]);
     let mut subframes = [0u16; 16];
-    let mut n = 0;
-    while n < 16 {
-        subframes[n] = fields[n + 11];
-        n += 1;
-    }
+    subframes.copy_from_slice(&fields[11..27]);
     Record {
         lsp,
         subframes,

@@ -11,7 +11,7 @@ use lib.ListN.{get_or}
 use Rattle.laws.specs.Lowest.{lowest}
 use Rattle.laws.proofs.Table.{at}
 use Rattle.laws.proofs.Lowest.{NoneUpTo, none_yet, none_at_all, lowest_same}
-use Rattle.laws.proofs.Wide.{fits_next, wide_next}
+use Rattle.laws.proofs.Wide.{wide_next}
 use Rattle.record.specs.Fields.{widths, width_of, index_of, indices_of, over, too_large_field}
 use Rattle.record.specs.declared.Record.{Record}
 use Rattle.record.proofs.Laws.{index_listed}
@@ -59,11 +59,6 @@ module _ {indices ws : List ℕ} {i : ℕ} (s : Passed indices ws i) where
   -- place i of both lists is that of field i + 1
   over_here : over_by indices (i + 1) ≡ leb (2 ^ get_or ws i 0) (get_or indices i 0)
   over_here = rw (add-sub_cancel i 1, s.wide) refl
-
-  -- one field more whose index fits
-  pub one_passed : get_or indices i 0 / 2 ^ get_or ws i 0 ≡ 0 → Passed indices ws (i + 1)
-  one_passed e =
-      record { wide = s.wide; fit = fits_next (over_by indices) (get_or indices i 0) (get_or ws i 0) over_here s.fit e }
 
   -- the lowest field whose index does not
   pub found_here : i < 28 → (get_or indices i 0 / 2 ^ get_or ws i 0 ≡ 0 → ⊥) → i + 1 ≡ lowest (over_by indices) 28

@@ -1,9 +1,10 @@
 -- What `too_large_field` says of a record: 0 exactly when every index fits its field; else a field whose index does not, and
 -- every lower one does.
--- And what stands in which field.
+-- And what stands in which field, and which field such a number names.
 -- Assumes nothing.
-use mathlib.Core.Path.{◌≡◌, ◌∙◌, sym, ap}
-use Prim.Native.Nat.{ℕ, ◌+◌, ◌-◌, ◌^◌, ◌<◌, ◌≤◌}
+use mathlib.Core.Path.{◌≡◌, ◌∙◌, sym, refl, ap}
+use Rattle.std.specs.Prelude.{None, Some}
+use Prim.Native.Nat.{ℕ, zero, suc, ◌+◌, ◌-◌, ◌^◌, ◌<◌, ◌≤◌}
 use native.Mathlib.Omega.{arith}
 use native.Mathlib.Nat.{add-sub_cancel}
 use native.Mathlib.Decide.{ℕ_discrete, dec_le}
@@ -12,7 +13,7 @@ use Rattle.laws.specs.Tabulate.{tabulate}
 use Rattle.laws.proofs.Tabulate.{length_tabulate, get_d_tabulate, tabulate_is}
 use borrow.Author.Tests.{leb-true, leb-false, le-leb, lt-leb}
 use Rattle.laws.proofs.Lowest.{lowest_zero, lowest_found, lowest_none, lowest_at}
-use Rattle.record.specs.Fields.{over, too_large_field, index_of, indices_of, record_with, width_of}
+use Rattle.record.specs.Fields.{over, too_large_field, index_of, indices_of, record_with, width_of, field_named}
 use Rattle.record.specs.declared.Record.{Record}
 
 module _ (r : Record) where
@@ -111,3 +112,21 @@ record_is r v ten sixteen same =
     indices =
         tabulate_is (λ k. v (k + 11)) 0 r.subframes 16 sixteen
         (λ k l. same (k + 11) (omega arith) (omega arith) ∙ index_subframe r k l)
+
+-- a number over 0 names its field, and 0 none
+pub names_field : {n : ℕ} (f : ℕ) → f ≡ n → 1 ≤ f → Some f ≡ field_named n
+names_field {n = zero} f e h = absurd (omega arith)
+names_field {n = suc n} f e h = ap Some e
+
+pub names_none : {n : ℕ} → 0 ≡ n → None ≡ field_named n
+names_none e = ap field_named e
+
+-- for who asked: the number is that of the field
+pub field_is : {n f : ℕ} → Some f ≡ field_named n → (n ≡ f) × (n ≡ 0 → ⊥)
+field_is {n = zero} {f} e = absurd (cc)
+field_is {n = suc n} {f} e = let s : f ≡ suc n = cc in (sym s, λ z. omega arith)
+
+-- or 0
+pub none_is : {n : ℕ} → None ≡ field_named n → n ≡ 0
+none_is {n = zero} e = refl
+none_is {n = suc n} e = absurd (cc)

@@ -1,5 +1,5 @@
 -- The fields of a record, by number (document 01, "The 144 places"; widths from 3.8.2).
-use Rattle.std.specs.Prelude.{Bool, cond, List, [], ◌∷◌, ℕ, ◌+◌, ◌-◌, ◌^◌, leb, eqb, get_or}
+use Rattle.std.specs.Prelude.{Bool, cond, List, [], ◌∷◌, ℕ, zero, suc, ◌+◌, ◌-◌, ◌^◌, leb, eqb, Option, None, Some, get_or}
 use Rattle.laws.specs.Lowest.{lowest}
 use Rattle.laws.specs.Tabulate.{tabulate}
 use Rattle.record.specs.declared.Record.{Record}
@@ -41,3 +41,8 @@ over r i = leb (2 ^ width_of i) (index_of r i)
 -- the lowest field whose index is too large, or 0
 unfoldable pub too_large_field : Record → ℕ
 too_large_field r = lowest (over r) 28
+
+-- the field that such a number names; 0 names none
+abbrev pub field_named : ℕ → Option ℕ
+field_named zero = None
+field_named (suc i) = Some (suc i)

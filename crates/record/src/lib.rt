@@ -4,7 +4,7 @@
 #![tactic(auto)]
 
 ghost use Rattle.std.specs.Prelude.{◌≡◌};
-ghost use Rattle.record.specs.Fields.{indices_of, too_large_field};
+ghost use Rattle.record.specs.Fields.{indices_of, field_named, too_large_field};
 
 // All fields are 16 bits, so that an index too large for its field is still there to be reported.
 #[derive(Clone, Copy)]
@@ -36,35 +36,25 @@ impl Record {
     {
         let mut indices = [0u16; 28];
         let lsp = self.lsp;
-        let mut k = 0;
-        while k < 10 {
-            indices[k] = lsp[k];
-            k += 1;
-        }
+        indices[..10].copy_from_slice(&lsp);
         let subframes = self.subframes;
-        let mut n = 0;
-        while n < 16 {
-            indices[n + 10] = subframes[n];
-            n += 1;
-        }
+        indices[10..26].copy_from_slice(&subframes);
         indices[26] = self.sp;
         indices[27] = self.sy;
         indices
     }
 
-    // The lowest field whose index is too large for it, or 0.
-    pub fn too_large(self) -> usize
-        ensures { result ≡ too_large_field self }
+    // The lowest field whose index is too large for it.
+    pub fn too_large(self) -> Option<usize>
+        ensures { result ≡ field_named (too_large_field self) }
     {
         let indices = self.by_field();
         let widths = Self::WIDTHS;
-        let mut i = 0;
-        while i < Self::FIELDS {
+        for i in 0..Self::FIELDS {
             if indices[i] >> widths[i] != 0 {
-                return i + 1;
+                return Some(i + 1);
             }
-            i += 1;
         }
-        0
+        None
     }
 }

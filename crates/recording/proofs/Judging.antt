@@ -5,13 +5,13 @@ use mathlib.Core.List.{List, []}
 use Prim.Native.Nat.{ℕ, suc, ◌-◌}
 use native.Mathlib.Omega.{arith}
 use lib.ListN.{length}
+use Rattle.std.specs.Prelude.{Ok, Err}
 use Rattle.values.specs.Values.{fresh_state}
 use Rattle.values.specs.declared.State.{State}
 use Rattle.blocks.specs.Walk.{walked_of}
 use Rattle.blocks.specs.Frames.{frames_of}
 use Rattle.blocks.specs.declared.Cause.{Cause}
-use Rattle.blocks.specs.declared.Ending.{Ending}
-use Rattle.blocks.specs.declared.Ending.TheVariants as Ending
+use Rattle.blocks.specs.Walk.{Ending}
 use Rattle.blocks.specs.declared.Walk.{Walk}
 use Rattle.blocks.specs.declared.Walked.{Walked}
 use Rattle.passes.specs.Counted.{counts_of}
@@ -25,7 +25,6 @@ use Rattle.passes.proofs.Passes.{frames_fit}
 use Rattle.passes.proofs.Through.{start_state, pass_hears, pass_all}
 use Rattle.recording.specs.Judged.{summary_of, judged_by, judged_of}
 use Rattle.recording.specs.declared.Summary.{Summary}
-use Rattle.recording.specs.declared.Judged.TheVariants.{Sound, Refused}
 
 -- ---- the return of `heard_after`
 
@@ -79,10 +78,10 @@ module _ (s : List ℕ) {w : Walked} (is : w ≡ walked_of s) where
       ∙ ap (λ (x : Walked). judged_by x.ending (summary_of x.walk (counts_of fresh_state (frames_of s)))) is
 
   -- a refused walk is judged so
-  pub judge_refused : {cause : Cause} → w.ending ≡ Ending.Refused cause → Refused cause ≡ judged_of s
-  judge_refused {cause} ends = judged (Ending.Refused cause) ends refl
+  pub judge_refused : {cause : Cause} → w.ending ≡ Err cause → Err cause ≡ judged_of s
+  judge_refused {cause} ends = judged (Err cause) ends refl
 
   -- a sound one is judged by its walk and the counts of its frames
-  pub judge_sound : w.ending ≡ Ending.Sound → {x : Summary}
-      → x ≡ summary_of w.walk (counts_of fresh_state (frames_of s)) → Sound x ≡ judged_of s
-  judge_sound ends counted = ap Sound counted ∙ judged Ending.Sound ends refl
+  pub judge_sound : w.ending ≡ Ok tt → {x : Summary}
+      → x ≡ summary_of w.walk (counts_of fresh_state (frames_of s)) → Ok x ≡ judged_of s
+  judge_sound ends counted = ap Ok counted ∙ judged (Ok tt) ends refl

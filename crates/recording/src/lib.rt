@@ -8,9 +8,8 @@ ghost use Rattle.blocks.specs.Frames.{frames_of};
 ghost use Rattle.passes.specs.Counted.{counts_of};
 ghost use Rattle.passes.specs.Pass.{frame_heard, start_of, pass_at};
 ghost use Rattle.recording.specs.Judged.{summary_of, judged_of};
-ghost use Rattle.blocks.specs.declared.Ending.TheVariants.{Sound};
 
-use blocks::{Cause, Ending, Heading, Walk};
+use blocks::{Cause, Heading, Walk};
 use passes::{Counts, Hearing, Pass};
 use values::State;
 
@@ -22,38 +21,26 @@ pub struct Summary {
     pub counts: Counts,
 }
 
-#[derive(Clone, Copy)]
-pub enum Judged {
-    Sound(Summary),
-    Refused(Cause),
-}
-
 // Judges any bytes: a sound recording with its counts, or the refusal.
-pub fn judge(s: &[u8]) -> Judged
+pub fn judge(s: &[u8]) -> Result<Summary, Cause>
     ensures { result ≡ judged_of s.now }
 {
     let walked = walk::walk_through(s);
-    let ending = walked.ending;
-    match ending {
-        Ending::Refused(cause) => Judged::Refused(cause),
-        Ending::Sound => Judged::Sound(summarize(s, walked.walk)),
-    }
+    walked.ending?;
+    Ok(summarize(s, walked.walk))
 }
 
 // A sound recording whose blocks were walked, told in numbers.
 fn summarize(s: &[u8], walk: Walk) -> Summary
     requires walk_value { walk ≡ (walked_of s.now).walk }
-    requires s_value { (walked_of s.now).ending ≡ Sound }
+    requires s_value { (walked_of s.now).ending ≡ Ok tt }
     ensures { result ≡ summary_of walk (counts_of fresh_state (frames_of s.now)) }
 {
     let end = pass_after(s, s.len(), passes::begin(walk, State::fresh()));
-    let counts = end.counts;
-    let heading = walk.heading;
-    let frames = walk.frames;
     Summary {
-        heading,
-        frames,
-        counts,
+        heading: walk.heading,
+        frames: walk.frames,
+        counts: end.counts,
     }
 }
 
@@ -62,14 +49,12 @@ fn pass_after(s: &[u8], k: usize, mut pass: Pass) -> Pass
     requires { pass ≡ start_of pass.state s.now }
     ensures { result ≡ pass_at pass.state s.now k }
 {
-    let mut ahead = k;
-    while 0 < ahead {
+    for _ in 0..k {
         let step = steps::next(s, pass);
         if step.pass.frames == pass.frames {
             return pass;
         }
         pass = step.pass;
-        ahead -= 1;
     }
     pass
 }

@@ -7,6 +7,7 @@ use native.Mathlib.Omega.{arith}
 use native.Mathlib.Decide.{ℕ_discrete}
 use lib.ListN.{length, take, drop, length-drop}
 use lib.Seq.{length-take-le}
+use Rattle.std.specs.Prelude.{Some, None}
 use Rattle.text.specs.Laid.{laid, after}
 use Rattle.text.proofs.Laid.{laid_none, laid_then, after_then, Put, put_as, put_nothing, put_then}
 use Rattle.text.proofs.Laid.{put_length, put_within}
@@ -16,7 +17,7 @@ use Rattle.blocks.specs.Frames.{voice_size, voices_from, found_at}
 use Rattle.blocks.specs.Made.{word_bytes, block, head_block, voice_blocks, end_block}
 use Rattle.blocks.proofs.Frames.{no_voice, first_frame}
 use Rattle.blocks.proofs.Voices.{voice_sized, voices_none, voices_more}
-use Rattle.blocks.specs.declared.Found.TheVariants.{At, Nothing}
+use Rattle.blocks.specs.declared.Found.{Found}
 use Rattle.kept.specs.Keeping.{frames_at, first_frames}
 use Rattle.salvage.specs.Steps.{bytes_before}
 use Rattle.kept.specs.Steps.{reach_of}
@@ -40,19 +41,20 @@ pub record Entered (s : List ℕ) (at first rest : ℕ) : Type 0 where
   pub fits : first + (rest + 18) ≤ length s
   pub whole : (rest + 18) % 18 ≡ 0
 
-pub found_voice : (s : List ℕ) (at first rest : ℕ) → found_at s at 0 ≡ At first rest → Entered s at first rest
-found_voice s at first rest e = go (ℕ_discrete (voice_size s at) 0)
+pub found_voice : (s : List ℕ) (at : ℕ) (found : Found) → found_at s at 0 ≡ Some found
+    → Entered s at found.first found.rest
+found_voice s at found e = go (ℕ_discrete (voice_size s at) 0)
   where
-    go : Dec (voice_size s at ≡ 0) → Entered s at first rest
+    go : Dec (voice_size s at ≡ 0) → Entered s at found.first found.rest
     go (yes z) =
         let n = no_voice s at 0 (voice_size s at) refl refl z ∙ e in
         absurd (let z : ◌≡◌ {A = ℕ} 0 1 = cc in omega arith)
     go (no z) =
         let m = first_frame s at 0 (voice_size s at) refl refl z ∙ e in
         let t = voice_sized s at (voice_size s at) refl z in
-        let a : at + 6 ≡ first = cc in
-        let b : voice_size s at - 18 ≡ rest = cc in
-        let c : rest + 18 ≡ voice_size s at = omega (arith, b, t.least) in
+        let a : at + 6 ≡ found.first = cc in
+        let b : voice_size s at - 18 ≡ found.rest = cc in
+        let c : found.rest + 18 ≡ voice_size s at = omega (arith, b, t.least) in
         record {
           starts = sym a;
           size = c;
@@ -61,7 +63,7 @@ found_voice s at first rest e = go (ℕ_discrete (voice_size s at) 0)
         }
 
 -- where none is found, no voice block stands
-found_none : (s : List ℕ) (at : ℕ) → found_at s at 0 ≡ Nothing → voice_size s at ≡ 0
+found_none : (s : List ℕ) (at : ℕ) → found_at s at 0 ≡ None → voice_size s at ≡ 0
 found_none s at e = go (ℕ_discrete (voice_size s at) 0)
   where
     go : Dec (voice_size s at ≡ 0) → voice_size s at ≡ 0
@@ -113,17 +115,17 @@ module _ {o : List ℕ} {start : ℕ} {s : List ℕ} {frames : ℕ} {out : List 
       laid_all (ap (blocks_to s at) z ∙ ap voice_blocks (first_none (voices_from s at)))
 
   -- no voice block is left
-  pub laying_none : found_at s at 0 ≡ Nothing → Put o start (blocks_to s (after_head 0) frames) end out
+  pub laying_none : found_at s at 0 ≡ None → Put o start (blocks_to s (after_head 0) frames) end out
   unfolding voice_blocks first_frames
   laying_none e =
       laid_all
       (ap (λ (x : List (List ℕ)). voice_blocks (first_frames x (left / 18)))
       (voices_none s at (voice_size s at) refl (found_none s at e)))
 
-  module _ (first rest kept : ℕ) (l : 0 < left) (e : found_at s at 0 ≡ At first rest) (k : kept ≡ min (rest + 18) left)
+  module _ (first rest kept : ℕ) (l : 0 < left) (e : found_at s at 0 ≡ Some (record { first = first; rest = rest })) (k : kept ≡ min (rest + 18) left)
     where
       entered : Entered s at first rest
-      entered = found_voice s at first rest e
+      entered = found_voice s at _ e
 
       -- the payload that is laid
       payload : part s (at + 6) kept ≡ take (18 * (left / 18)) (part s (at + 6) (rest + 18))

@@ -12,23 +12,18 @@ ghost use Rattle.kept.specs.Steps.{reach_of};
 ghost use Rattle.salvage.specs.Salvaging.{salvage_of, buffer_of};
 ghost use Rattle.salvage.specs.Steps.{bytes_before};
 
-use blocks::Found;
-use kept::{Keep, Plan};
+use kept::{Keep, Unsalvaged};
 use salvage::Salvaged;
 
 // Writes what can be kept of any bytes, with a fresh end, into a lent buffer of 65,536 bytes, and answers what it changed. A refusal
 // writes nothing.
-pub fn salvage(s: &[u8], out: &mut [u8]) -> Salvaged
+pub fn salvage(s: &[u8], out: &mut [u8]) -> Result<Salvaged, Unsalvaged>
     ensures value { result ≡ salvage_of s.now (length out.old) }
     ensures out_after { out.new ≡ buffer_of s.now out.old }
 {
-    match kept::planned(s, out.len()) {
-        Plan::Nothing(why) => Salvaged::Refused(why),
-        Plan::Written(keep) => {
-            let end = write(out, s, keep);
-            salvage::answer(s.len(), keep.frames, end as u32, keep.sound)
-        }
-    }
+    let keep = kept::planned(s, out.len())?;
+    let end = write(out, s, keep);
+    Ok(salvage::answer(s.len(), keep.frames, end as u32, keep.sound))
 }
 
 // Lays the head, the frames kept in their blocks, and the end, and answers where the end block stands.
@@ -55,14 +50,15 @@ fn put_voices(out: &mut [u8], start: usize, s: &[u8], frames: u32) -> usize
     let mut end = start;
     let mut at = 14;
     let mut left = 18 * frames as usize;
+    // no index is counted: each block says where the next one stands
     while 0 < left {
         match voices::find(s, at, 0) {
-            Found::Nothing => return end,
-            Found::At(first, rest) => {
-                let size = rest + 18;
-                let kept = text::least(size, left);
-                let to = first + kept;
-                end = put_voice(out, end, kept, &s[first..to]);
+            None => return end,
+            Some(found) => {
+                let first = found.first;
+                let size = found.rest + 18;
+                let kept = size.min(left);
+                end = put_voice(out, end, kept, &s[first..first + kept]);
                 at = first + size;
                 left -= kept;
             }
@@ -84,8 +80,7 @@ fn put_rest(out: &mut [u8], end: usize, s: &[u8], at: usize, frames: u32) -> usi
     }
     let from = at + 6;
     let size = 18 * frames as usize;
-    let to = from + size;
-    put_voice(out, end, size, &s[from..to])
+    put_voice(out, end, size, &s[from..from + size])
 }
 
 // Lays a voice block of so many bytes.
@@ -95,14 +90,7 @@ fn put_voice(out: &mut [u8], at: usize, size: usize, payload: &[u8]) -> usize
     ensures value { result ≡ after out.old at (block 2 payload.now) }
     ensures out_after { out.new ≡ laid out.old at (block 2 payload.now) }
 {
-    let bytes = [
-        (size % 256) as u8,
-        (size / 256 % 256) as u8,
-        (size / 256 / 256 % 256) as u8,
-        (size / 256 / 256 / 256) as u8,
-        2,
-        0,
-    ];
-    let header = text::put_word(out, at, &bytes);
+    let [a, b, c, d] = (size as u32).to_le_bytes();
+    let header = text::put_word(out, at, &[a, b, c, d, 2, 0]);
     text::put_word(out, header, payload)
 }

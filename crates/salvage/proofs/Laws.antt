@@ -10,6 +10,8 @@ use borrow.Author.Tests.{le-leb, lt-ltb, leb-true, leb-false, eqb-true, eqb-fals
 use lib.Dec.{eqb, leb, ltb}
 use lib.ListN.{length, take, drop}
 use lib.Seq.{length-take-le}
+use Rattle.std.specs.Prelude.{Ok, Err, Result}
+use Rattle.std.specs.declared.ops.ControlFlow.TheVariants.{Continue, Break}
 use Rattle.laws.proofs.Chosen.{chosen}
 use Rattle.laws.proofs.Taken.{empty}
 use Rattle.blocks.specs.Blocks.{block_at}
@@ -17,10 +19,8 @@ use Rattle.blocks.specs.Walk.{longest, after_head, past_head_of, step_of, at_sta
 use Rattle.blocks.specs.Frames.{spans_from, bytes_at, voices_from, payloads_of, frames_in, frames_of}
 use Rattle.blocks.specs.Made.{voice_blocks, made, MadeFrom, walk_over}
 use Rattle.blocks.specs.declared.Block.TheVariants.{Head}
-use Rattle.blocks.specs.declared.Ending.{Ending}
-use Rattle.blocks.specs.declared.Ending.TheVariants as Ending
+use Rattle.blocks.specs.Walk.{Ending}
 use Rattle.blocks.specs.declared.Heading.{Heading}
-use Rattle.blocks.specs.declared.Moved.TheVariants.{On, Done}
 use Rattle.blocks.specs.declared.Walk.{Walk}
 use Rattle.blocks.specs.declared.Walked.{Walked}
 use Rattle.blocks.proofs.Made.{made_is_walked, walked_is_made}
@@ -31,8 +31,6 @@ use Rattle.kept.specs.Keeping.{left_at, frames_at, kept_of, frames_kept, voices_
 use Rattle.kept.specs.Planning.{number_of, is_sound, keep_of, plan_of}
 use Rattle.kept.specs.Steps.{reach_of}
 use Rattle.kept.specs.declared.Keep.{Keep}
-use Rattle.kept.specs.declared.Plan.{Plan}
-use Rattle.kept.specs.declared.Plan.TheVariants.{Written, Nothing}
 use Rattle.kept.specs.declared.Unsalvaged.{Unsalvaged}
 use Rattle.kept.specs.declared.Unsalvaged.TheVariants.{TooLong, WrongBuffer, NoHead, NoFrame}
 use Rattle.kept.proofs.First.{Sized, sized_at, first_all, first_sized, first_frames_lem}
@@ -44,21 +42,21 @@ use Rattle.salvage.specs.Promised.{SoundUnchanged, SalvagedAgain, FewestGo, NoEm
 use Rattle.salvage.specs.Salvaging.{result_of, end_of, changes_of, answer_of, salvage_of, buffer_by, buffer_of}
 use Rattle.salvage.specs.Salvaging.{refusal_of, tells_of}
 use Rattle.salvage.specs.declared.Salvaged.{Salvaged}
-use Rattle.salvage.specs.declared.Salvaged.TheVariants.{Sound, Mended, Refused}
+use Rattle.salvage.specs.declared.Salvaged.TheVariants.{Sound, Mended}
 use Rattle.salvage.proofs.Results.{left_kept, end_within, result_short}
 use Rattle.salvage.proofs.Stands.{stand}
 
 -- ---- by what is planned
 
 -- a plan's number
-abbrev plan_number : Plan → ℕ
-plan_number (Nothing why) = number_of why
-plan_number (Written k) = 0
+abbrev plan_number : Result Keep Unsalvaged → ℕ
+plan_number (Err why) = number_of why
+plan_number (Ok k) = 0
 
 -- is that of the answer
-answer_number : (s : List ℕ) (x : Plan) → refusal_of (answer_of s x) ≡ plan_number x
-answer_number s (Nothing why) = refl
-answer_number s (Written k) = chosen (λ (y : Salvaged). refusal_of y ≡ 0) k.sound (λ t. refl) (λ t. refl)
+answer_number : (s : List ℕ) (x : Result Keep Unsalvaged) → refusal_of (answer_of s x) ≡ plan_number x
+answer_number s (Err why) = refl
+answer_number s (Ok k) = chosen (λ (y : Salvaged). refusal_of (Ok y) ≡ 0) k.sound (λ t. refl) (λ t. refl)
 
 salvage_number : (s : List ℕ) (room : ℕ) → refusal_of (salvage_of s room) ≡ plan_number (plan_of s room)
 unfolding salvage_of
@@ -72,13 +70,13 @@ number_some NoHead e = omega arith
 number_some NoFrame e = omega arith
 
 -- where nothing is refused, something is planned
-planned_of : (s : List ℕ) (room : ℕ) → Salvages s room → (k : Keep) × (plan_of s room ≡ Written k)
+planned_of : (s : List ℕ) (room : ℕ) → Salvages s room → (k : Keep) × (plan_of s room ≡ Ok k)
 planned_of s room z = go (plan_of s room) refl
   where
-    go : (x : Plan) → plan_of s room ≡ x → (k : Keep) × (plan_of s room ≡ Written k)
-    go (Nothing why) e =
+    go : (x : Result Keep Unsalvaged) → plan_of s room ≡ x → (k : Keep) × (plan_of s room ≡ Ok k)
+    go (Err why) e =
         absurd (number_some why (sym (ap plan_number e) ∙ sym (salvage_number s room) ∙ z))
-    go (Written k) e = (k, e)
+    go (Ok k) e = (k, e)
 
 says_of : (s : List ℕ) (room : ℕ) (z : Salvages s room) → Planned s room (planned_of s room z).0
 says_of s room z = let p = planned_of s room z in plan_written s room p.0 p.1
@@ -86,13 +84,13 @@ says_of s room z = let p = planned_of s room z in plan_written s room p.0 p.1
 -- ---- when it is refused
 
 -- what each plan says of the input and the buffer
-abbrev Because : List ℕ → ℕ → Plan → Type 0
-Because s room (Nothing TooLong) = longest < length s
-Because s room (Nothing WrongBuffer) = (length s ≤ longest) × (room ≡ longest → ⊥)
-Because s room (Nothing NoHead) = ((length s ≤ longest) × (room ≡ longest)) × ((walked_of s).walk.headed ≡ false)
-Because s room (Nothing NoFrame) =
+abbrev Because : List ℕ → ℕ → Result Keep Unsalvaged → Type 0
+Because s room (Err TooLong) = longest < length s
+Because s room (Err WrongBuffer) = (length s ≤ longest) × (room ≡ longest → ⊥)
+Because s room (Err NoHead) = ((length s ≤ longest) × (room ≡ longest)) × ((walked_of s).walk.headed ≡ false)
+Because s room (Err NoFrame) =
     ((length s ≤ longest) × (room ≡ longest)) × ((walked_of s).walk.headed ≡ true) × (length (frames_in (kept_of s)) ≤ 0)
-Because s room (Written k) =
+Because s room (Ok k) =
     ((length s ≤ longest) × (room ≡ longest)) × ((walked_of s).walk.headed ≡ true) × (0 < length (frames_in (kept_of s)))
 
 because : (s : List ℕ) (room : ℕ) → Because s room (plan_of s room)
@@ -109,21 +107,21 @@ because s room =
     (λ a. leb-false _ _ a)
 
 -- past a head the input begins with it, and before one with none
-head_there : (s : List ℕ) → (walked_of s).walk.headed ≡ true → (h : Heading) × (block_at s 0 ≡ Head h)
+head_there : (s : List ℕ) → (walked_of s).walk.headed ≡ true → (h : Heading) × (block_at s 0 ≡ Ok (Head h))
 head_there s t = go (walked_of s).walk refl (way s)
   where
-    go : (w : Walk) → (walked_of s).walk ≡ w → Way s w → (h : Heading) × (block_at s 0 ≡ Head h)
+    go : (w : Walk) → (walked_of s).walk ≡ w → Way s w → (h : Heading) × (block_at s 0 ≡ Ok (Head h))
     go w i before_head = absurd (let z : ◌≡◌ {A = ℕ} 0 1 = cc in omega arith)
     go w i (behind_head _ ps b) = (w.heading, b.head)
 
 no_head_there : (s : List ℕ) → length s ≤ longest → (walked_of s).walk.headed ≡ false → (h : Heading)
-    → block_at s 0 ≡ Head h → ⊥
+    → block_at s 0 ≡ Ok (Head h) → ⊥
 no_head_there s l t h e = go (walked_of s).walk refl (way s)
   where
     go : (w : Walk) → (walked_of s).walk ≡ w → Way s w → ⊥
     go w i before_head =
-        let o : On (past_head_of at_start h) ≡ Done (walked_of s).ending
-        = first_head at_start h refl ∙ step_met s at_start (Head h) e ∙ ap (step_of s) (sym i) ∙ walked_stops s l in
+        let o : Continue (past_head_of at_start h) ≡ Break (walked_of s).ending
+        = first_head at_start h refl ∙ step_met s at_start (Ok (Head h)) e ∙ ap (step_of s) (sym i) ∙ walked_stops s l in
         absurd (let z : ◌≡◌ {A = ℕ} 0 1 = cc in omega arith)
     go w i (behind_head _ ps b) =
         let u : true ≡ false = sym b.headed ∙ ap (λ (x : Walk). x.headed) (sym i) ∙ t in
@@ -137,39 +135,39 @@ fits s room f (inr n) = n f.1
 
 -- a head and a frame are no reason for 12
 kept_some : (s : List ℕ) → (walked_of s).walk.headed ≡ true → 0 < length (frames_in (kept_of s))
-    → ((heading : Heading) → block_at s 0 ≡ Head heading → ⊥) ⊎ (frames_in (kept_of s) ≡ []) → ⊥
+    → ((heading : Heading) → block_at s 0 ≡ Ok (Head heading) → ⊥) ⊎ (frames_in (kept_of s) ≡ []) → ⊥
 kept_some s t l (inl n) = let h = head_there s t in n h.0 h.1
 kept_some s t l (inr e) = let z = ap length e in omega (arith, l, z)
 
 -- 1, by the plan
-one_exactly : (s : List ℕ) (room n : ℕ) (x : Plan) → Because s room x → n ≡ plan_number x
+one_exactly : (s : List ℕ) (room n : ℕ) (x : Result Keep Unsalvaged) → Because s room x → n ≡ plan_number x
     → (n ≡ 1) ↔ ((longest < length s) ⊎ (room ≡ longest → ⊥))
-one_exactly s room n (Nothing TooLong) b e = (λ i. inl b, λ l. e)
-one_exactly s room n (Nothing WrongBuffer) b e = (λ i. inr b.1, λ l. e)
-one_exactly s room n (Nothing NoHead) b e = (λ i. absurd (omega (arith, i, e)), λ l. absurd (fits s room b.0 l))
-one_exactly s room n (Nothing NoFrame) b e = (λ i. absurd (omega (arith, i, e)), λ l. absurd (fits s room b.0 l))
-one_exactly s room n (Written k) b e = (λ i. absurd (omega (arith, i, e)), λ l. absurd (fits s room b.0 l))
+one_exactly s room n (Err TooLong) b e = (λ i. inl b, λ l. e)
+one_exactly s room n (Err WrongBuffer) b e = (λ i. inr b.1, λ l. e)
+one_exactly s room n (Err NoHead) b e = (λ i. absurd (omega (arith, i, e)), λ l. absurd (fits s room b.0 l))
+one_exactly s room n (Err NoFrame) b e = (λ i. absurd (omega (arith, i, e)), λ l. absurd (fits s room b.0 l))
+one_exactly s room n (Ok k) b e = (λ i. absurd (omega (arith, i, e)), λ l. absurd (fits s room b.0 l))
 
 -- 12, by the plan
-twelve_exactly : (s : List ℕ) (room n : ℕ) (x : Plan) → Because s room x → n ≡ plan_number x
+twelve_exactly : (s : List ℕ) (room n : ℕ) (x : Result Keep Unsalvaged) → Because s room x → n ≡ plan_number x
     → (n ≡ 12)
     ↔ (((length s ≤ longest) × (room ≡ longest))
-    × (((heading : Heading) → block_at s 0 ≡ Head heading → ⊥) ⊎ (frames_in (kept_of s) ≡ [])))
-twelve_exactly s room n (Nothing TooLong) b e =
+    × (((heading : Heading) → block_at s 0 ≡ Ok (Head heading) → ⊥) ⊎ (frames_in (kept_of s) ≡ [])))
+twelve_exactly s room n (Err TooLong) b e =
     (λ i. absurd (omega (arith, i, e)), λ f. absurd (fits s room f.0 (inl b)))
-twelve_exactly s room n (Nothing WrongBuffer) b e =
+twelve_exactly s room n (Err WrongBuffer) b e =
     (λ i. absurd (omega (arith, i, e)), λ f. absurd (fits s room f.0 (inr b.1)))
-twelve_exactly s room n (Nothing NoHead) b e =
+twelve_exactly s room n (Err NoHead) b e =
     (λ i. (b.0, inl (no_head_there s b.0.0 b.1)), λ f. e)
-twelve_exactly s room n (Nothing NoFrame) b e = (λ i. (b.0, inr (empty (frames_in (kept_of s)) b.2)), λ f. e)
-twelve_exactly s room n (Written k) b e =
+twelve_exactly s room n (Err NoFrame) b e = (λ i. (b.0, inr (empty (frames_in (kept_of s)) b.2)), λ f. e)
+twelve_exactly s room n (Ok k) b e =
     (λ i. absurd (omega (arith, i, e)), λ f. absurd (kept_some s b.1 b.2 f.1))
 
 -- no answer tells anything
-tells_nothing : (x : Salvaged) → tells_of x ≡ []
-tells_nothing Sound = refl
-tells_nothing (Mended changes) = refl
-tells_nothing (Refused why) = refl
+tells_nothing : (x : Result Salvaged Unsalvaged) → tells_of x ≡ []
+tells_nothing (Ok Sound) = refl
+tells_nothing (Ok (Mended changes)) = refl
+tells_nothing (Err why) = refl
 
 pub salvage_refuses : SalvageRefuses
 unfolding SalvageRefuses
@@ -185,14 +183,14 @@ pub salvage_stands : SalvageStands
 unfolding SalvageStands buffer_of salvage_of
 salvage_stands s o = go (plan_of s (length o)) refl
   where
-    go : (x : Plan) → plan_of s (length o) ≡ x
+    go : (x : Result Keep Unsalvaged) → plan_of s (length o) ≡ x
         → ((Salvages s (length o) → ⊥) → buffer_by (answer_of s x) (result_of s) o ≡ o)
         × (Salvages s (length o) → buffer_by (answer_of s x) (result_of s) o ≡ result_of s ++ drop (length (result_of s)) o)
-    go (Nothing why) e = (
+    go (Err why) e = (
       λ n. refl,
       λ z. absurd (number_some why (sym (ap plan_number e) ∙ sym (salvage_number s (length o)) ∙ z)),
     )
-    go (Written k) e =
+    go (Ok k) e =
         (λ n. absurd (n (salvage_number s (length o) ∙ ap plan_number e)), λ z. left_kept s o k)
 
 -- ---- what is written
@@ -239,7 +237,7 @@ module _ (s : List ℕ) (room : ℕ) (z : Salvages s room) where
       }
 
   -- so it is walked through, and has these payloads
-  result_walked : walked_of (result_of s) ≡ stopped (walk_over (walked_of s).walk.heading (voices_kept s)) Ending.Sound
+  result_walked : walked_of (result_of s) ≡ stopped (walk_over (walked_of s).walk.heading (voices_kept s)) (Ok tt)
   result_walked = (made_is_walked (result_of s) (walked_of s).walk.heading (voices_kept s) result_made).0
 
   result_payloads : payloads_of (result_of s) ≡ voices_kept s
@@ -256,7 +254,7 @@ unfolding SalvagedAccepted
 salvaged_accepted s room z =
     let p = says s room z in (
       ap (λ (w : Walked). w.ending) (result_walked s room z),
-      p.kept.head ∙ ap (λ (w : Walked). Head w.walk.heading) (sym (result_walked s room z)),
+      p.kept.head ∙ ap (λ (w : Walked). Ok (Head w.walk.heading)) (sym (result_walked s room z)),
       result_frames s room z,
       ap length (result_frames s room z)
           ∙ length-take-le (frames_kept s) (frames_in (kept_of s)) (kept_upto s p.short p.kept),
@@ -287,7 +285,7 @@ fewest_go s room z = (
 
 -- ---- a sound recording
 
-module _ (s : List ℕ) (e : (walked_of s).ending ≡ Ending.Sound) where
+module _ (s : List ℕ) (e : (walked_of s).ending ≡ Ok tt) where
   whole : Whole s
   whole = sound_whole s e
 
@@ -320,7 +318,7 @@ module _ (s : List ℕ) (e : (walked_of s).ending ≡ Ending.Sound) where
       (first_all (kept_of s) (frames_kept s) kept.sized (omega (arith, f)) ∙ sound_kept)
 
   -- and the answer is that it is sound
-  sound_plan : plan_of s longest ≡ Written (keep_of s)
+  sound_plan : plan_of s longest ≡ Ok (keep_of s)
   unfolding plan_of
   sound_plan =
       let n = kept.count in
@@ -331,28 +329,29 @@ module _ (s : List ℕ) (e : (walked_of s).ending ≡ Ending.Sound) where
         lt-ltb 0 (length (frames_in (kept_of s))) (omega (arith, n, m)),
       )
 
-  sound_answer : salvage_of s longest ≡ Sound
+  sound_answer : salvage_of s longest ≡ Ok Sound
   unfolding salvage_of keep_of
   sound_answer =
-      ap (answer_of s) sound_plan ∙ ap (λ (x : Ending). cond (is_sound x) Sound (Mended (changes_of s))) e
+      ap (answer_of s) sound_plan ∙ ap (λ (x : Ending). Ok (cond (is_sound x) Sound (Mended (changes_of s)))) e
 
 -- only a sound recording is answered so
-only_sound : (s : List ℕ) → salvage_of s longest ≡ Sound → (walked_of s).ending ≡ Ending.Sound
+only_sound : (s : List ℕ) → salvage_of s longest ≡ Ok Sound → (walked_of s).ending ≡ Ok tt
 unfolding salvage_of keep_of
 only_sound s a = go (plan_of s longest) refl
   where
-    ends : (x : Ending) → (walked_of s).ending ≡ x → cond (is_sound x) Sound (Mended (changes_of s)) ≡ Sound
-        → (walked_of s).ending ≡ Ending.Sound
-    ends Ending.Sound i b = i
-    ends (Ending.Refused cause) i b = absurd (let z : ◌≡◌ {A = ℕ} 0 1 = cc in omega arith)
+    ends : (x : Ending) → (walked_of s).ending ≡ x
+        → ◌≡◌ {A = Result Salvaged Unsalvaged} (Ok (cond (is_sound x) Sound (Mended (changes_of s)))) (Ok Sound)
+        → (walked_of s).ending ≡ Ok tt
+    ends (Ok _) i b = i
+    ends (Err cause) i b = absurd (let z : ◌≡◌ {A = ℕ} 0 1 = cc in omega arith)
 
-    go : (x : Plan) → plan_of s longest ≡ x → (walked_of s).ending ≡ Ending.Sound
-    go (Nothing why) i =
-        let b : Refused why ≡ Sound = sym (ap (answer_of s) i) ∙ a in
+    go : (x : Result Keep Unsalvaged) → plan_of s longest ≡ x → (walked_of s).ending ≡ Ok tt
+    go (Err why) i =
+        let b : Err why ≡ Ok Sound = sym (ap (answer_of s) i) ∙ a in
         absurd (let z : ◌≡◌ {A = ℕ} 0 1 = cc in omega arith)
-    go (Written k) i =
+    go (Ok k) i =
         let p = plan_written s longest k i in
-        ends (walked_of s).ending refl (sym (ap (answer_of s) (i ∙ ap Written p.is)) ∙ a)
+        ends (walked_of s).ending refl (sym (ap (answer_of s) (i ∙ ap Ok p.is)) ∙ a)
 
 pub sound_unchanged : SoundUnchanged
 unfolding SoundUnchanged
@@ -363,7 +362,7 @@ pub salvaged_again : SalvagedAgain
 unfolding SalvagedAgain result_of
 salvaged_again s room z =
     let w = result_walked s room z in
-    let e : (walked_of (result_of s)).ending ≡ Ending.Sound = ap (λ (x : Walked). x.ending) w in (
+    let e : (walked_of (result_of s)).ending ≡ Ok tt = ap (λ (x : Walked). x.ending) w in (
       sound_answer (result_of s) e,
       sound_result (result_of s) e
           ∙ ap₂ made (ap (λ (x : Walked). x.walk.heading) w) (result_payloads s room z),
@@ -373,7 +372,7 @@ salvaged_again s room z =
 
 -- those of the result, from behind its head on
 module _ (s : List ℕ) (room : ℕ) (z : Salvages s room) where
-  result_sound : (walked_of (result_of s)).ending ≡ Ending.Sound
+  result_sound : (walked_of (result_of s)).ending ≡ Ok tt
   result_sound = ap (λ (x : Walked). x.ending) (result_walked s room z)
 
   result_voices : (walked_of (result_of s)).walk.voices ≡ after_head 0

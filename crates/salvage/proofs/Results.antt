@@ -8,6 +8,7 @@ use native.Mathlib.Omega.{arith}
 use native.Mathlib.Decide.{dec_lt}
 use lib.ListN.{length, take, drop, length-append, length-drop}
 use lib.Seq.{take_all}
+use Rattle.std.specs.Prelude.{Result, Ok, Err}
 use Rattle.laws.proofs.Chosen.{chosen}
 use Rattle.text.specs.Laid.{laid, after}
 use Rattle.blocks.specs.Walk.{longest, after_head, walked_of}
@@ -17,8 +18,6 @@ use Rattle.kept.specs.Keeping.{left_at, frames_at, kept_of, first_frames, frames
 use Rattle.kept.specs.Planning.{keep_of, plan_of}
 use Rattle.kept.specs.Steps.{reach_of}
 use Rattle.kept.specs.declared.Keep.{Keep}
-use Rattle.kept.specs.declared.Plan.{Plan}
-use Rattle.kept.specs.declared.Plan.TheVariants.{Written, Nothing}
 use Rattle.kept.specs.declared.Unsalvaged.{Unsalvaged}
 use Rattle.kept.proofs.First.{Sized, first_all, first_less}
 use Rattle.kept.proofs.Keeps.{blocks_join, Kept}
@@ -28,7 +27,7 @@ use Rattle.salvage.specs.Salvaging.{result_of, end_of, changes_of, answer_of, sa
 use Rattle.salvage.specs.Steps.{bytes_before, changes_by, answer_by}
 use Rattle.salvage.specs.declared.Changes.{Changes}
 use Rattle.salvage.specs.declared.Salvaged.{Salvaged}
-use Rattle.salvage.specs.declared.Salvaged.TheVariants.{Sound, Mended, Refused}
+use Rattle.salvage.specs.declared.Salvaged.TheVariants.{Sound, Mended}
 
 -- fewer frames reach less far
 reach_less : (at m n : ℕ) → m ≤ n → reach_of at m ≤ reach_of at n
@@ -76,12 +75,12 @@ result_long s = made_long (walked_of s).walk.heading (voices_kept s)
 
 -- where something is planned, the result is left in the buffer
 pub left_kept : (s o : List ℕ) (k : Keep)
-    → buffer_by (answer_of s (Written k)) (result_of s) o ≡ result_of s ++ drop (length (result_of s)) o
+    → buffer_by (answer_of s (Ok k)) (result_of s) o ≡ result_of s ++ drop (length (result_of s)) o
 left_kept s o k =
-    chosen (λ (x : Salvaged). buffer_by x (result_of s) o ≡ result_of s ++ drop (length (result_of s)) o) k.sound
+    chosen (λ (x : Salvaged). buffer_by (Ok x) (result_of s) o ≡ result_of s ++ drop (length (result_of s)) o) k.sound
     (λ t. refl) (λ t. refl)
 
-module _ (s : List ℕ) (room : ℕ) (k : Keep) (e : plan_of s room ≡ Written k) where
+module _ (s : List ℕ) (room : ℕ) (k : Keep) (e : plan_of s room ≡ Ok k) where
   -- what is planned says so
   pub planned : Planned s room k
   planned = plan_written s room k e
@@ -138,7 +137,7 @@ module _ (s : List ℕ) (room : ℕ) (k : Keep) (e : plan_of s room ≡ Written 
         ∙ ap₂ (λ (x : List ℕ) (n : ℕ). x ++ drop n o)
         (take_all (length o - 0) (result_of s) (omega (arith, short, planned.buffer, long))) z
         ∙ sym (left_kept s o k)
-        ∙ ap (λ (x : Plan). buffer_by (answer_of s x) (result_of s) o) (sym e ∙ ap (plan_of s) (sym long))
+        ∙ ap (λ (x : Result Keep Unsalvaged). buffer_by (answer_of s x) (result_of s) o) (sym e ∙ ap (plan_of s) (sym long))
 
   -- the changes, where the end block stands there
   changes_are : (end : ℕ) → end ≡ end_of s → changes_by (length s) k.frames end ≡ changes_of s
@@ -148,14 +147,14 @@ module _ (s : List ℕ) (room : ℕ) (k : Keep) (e : plan_of s room ≡ Written 
       λ j. record { dropped = length s - i j; from = i j; frames = frames_are j; end = i j; long = n j }
 
   -- the answer
-  pub answer_is : (end : ℕ) → end ≡ end_of s → answer_by (length s) k.frames end k.sound ≡ salvage_of s room
+  pub answer_is : (end : ℕ) → end ≡ end_of s → Ok (answer_by (length s) k.frames end k.sound) ≡ salvage_of s room
   unfolding salvage_of
   answer_is end i =
-      ap (λ (c : Changes). cond k.sound Sound (Mended c)) (changes_are end i) ∙ ap (answer_of s) (sym e)
+      ap (λ (c : Changes). Ok (cond k.sound Sound (Mended c))) (changes_are end i) ∙ ap (answer_of s) (sym e)
 
-module _ (s : List ℕ) (room : ℕ) (why : Unsalvaged) (e : plan_of s room ≡ Nothing why) where
+module _ (s : List ℕ) (room : ℕ) (why : Unsalvaged) (e : plan_of s room ≡ Err why) where
   -- where nothing is planned it is refused
-  pub refused_is : Refused why ≡ salvage_of s room
+  pub refused_is : Err why ≡ salvage_of s room
   unfolding salvage_of
   refused_is = ap (answer_of s) (sym e)
 
@@ -163,7 +162,7 @@ module _ (s : List ℕ) (room : ℕ) (why : Unsalvaged) (e : plan_of s room ≡ 
   pub buffer_stays : (o : List ℕ) → length o ≡ room → o ≡ buffer_of s o
   unfolding buffer_of
   buffer_stays o l =
-      ap (λ (x : Salvaged). buffer_by x (result_of s) o) (refused_is ∙ ap (salvage_of s) (sym l))
+      ap (λ (x : Result Salvaged Unsalvaged). buffer_by x (result_of s) o) (refused_is ∙ ap (salvage_of s) (sym l))
 
 -- the buffer is no shorter than it was
 buffer_long : (s o : List ℕ) → length o ≤ length (buffer_of s o)
@@ -173,13 +172,13 @@ buffer_long s o = go (salvage_of s (length o))
     whole : length o ≤ length (result_of s ++ drop (length (result_of s)) o)
     whole = simp (length-append, length-drop) (omega arith)
 
-    go : (x : Salvaged) → length o ≤ length (buffer_by x (result_of s) o)
-    go Sound = whole
-    go (Mended changes) = whole
-    go (Refused why) = omega arith
+    go : (x : Result Salvaged Unsalvaged) → length o ≤ length (buffer_by x (result_of s) o)
+    go (Ok Sound) = whole
+    go (Ok (Mended changes)) = whole
+    go (Err why) = omega arith
 
 -- the result stands within it
-pub result_within : (s o o' : List ℕ) (x : Salvaged) (long : ℕ) → x ≡ salvage_of s (length o) → o' ≡ buffer_of s o
+pub result_within : (s o o' : List ℕ) (x : Result Salvaged Unsalvaged) (long : ℕ) → x ≡ salvage_of s (length o) → o' ≡ buffer_of s o
     → long ≡ long_of (length s) x → long ≤ length o'
 unfolding salvage_of changes_of
 result_within s o o' x long e b l = go (plan_of s (length o)) refl
@@ -190,15 +189,15 @@ result_within s o o' x long e b l = go (plan_of s (length o)) refl
     room : length o ≤ length o'
     room = subst (λ (y : List ℕ). length o ≤ length y) (sym b) (buffer_long s o)
 
-    go : (y : Plan) → plan_of s (length o) ≡ y → long ≤ length o'
-    go (Nothing why) i =
-        let z : long ≡ 0 = by ∙ ap (λ (y : Plan). long_of (length s) (answer_of s y)) i in omega (arith, z)
-    go (Written k) i =
+    go : (y : Result Keep Unsalvaged) → plan_of s (length o) ≡ y → long ≤ length o'
+    go (Err why) i =
+        let z : long ≡ 0 = by ∙ ap (λ (y : Result Keep Unsalvaged). long_of (length s) (answer_of s y)) i in omega (arith, z)
+    go (Ok k) i =
         let p = plan_written s (length o) k i in
-        let m : long_of (length s) (answer_of s (Written k)) ≤ longest
-        = chosen (λ (y : Salvaged). long_of (length s) y ≤ longest) k.sound (λ t. p.short) (λ t. result_short s) in
-        let n : long ≡ long_of (length s) (answer_of s (Written k))
-        = by ∙ ap (λ (y : Plan). long_of (length s) (answer_of s y)) i in
+        let m : long_of (length s) (answer_of s (Ok k)) ≤ longest
+        = chosen (λ (y : Salvaged). long_of (length s) (Ok y) ≤ longest) k.sound (λ t. p.short) (λ t. result_short s) in
+        let n : long ≡ long_of (length s) (answer_of s (Ok k))
+        = by ∙ ap (λ (y : Result Keep Unsalvaged). long_of (length s) (answer_of s y)) i in
         omega (arith, m, n, p.buffer, room)
 
 -- the numbers of some changes are no larger than a recording is long
@@ -225,15 +224,17 @@ small s l t =
     }
 
 -- so they are of every recording that is mended
-pub changes_small : (s : List ℕ) (room : ℕ) (c : Changes) → salvage_of s room ≡ Mended c → Small c
+pub changes_small : (s : List ℕ) (room : ℕ) (c : Changes) → salvage_of s room ≡ Ok (Mended c) → Small c
 unfolding salvage_of
 changes_small s room c e = go (plan_of s room) refl e
   where
-    mended : (b : Bool) → cond b Sound (Mended (changes_of s)) ≡ Mended c → Small (changes_of s) → Small c
+    mended : (b : Bool)
+        → ◌≡◌ {A = Result Salvaged Unsalvaged} (Ok (cond b Sound (Mended (changes_of s)))) (Ok (Mended c))
+        → Small (changes_of s) → Small c
     mended true a m = absurd (let z : ◌≡◌ {A = ℕ} 0 1 = cc in omega arith)
     mended false a m = let q : changes_of s ≡ c = cc in subst Small q m
 
-    go : (x : Plan) → plan_of s room ≡ x → answer_of s x ≡ Mended c → Small c
-    go (Nothing why) i a = absurd (let z : ◌≡◌ {A = ℕ} 0 1 = cc in omega arith)
-    go (Written k) i a =
+    go : (x : Result Keep Unsalvaged) → plan_of s room ≡ x → answer_of s x ≡ Ok (Mended c) → Small c
+    go (Err why) i a = absurd (let z : ◌≡◌ {A = ℕ} 0 1 = cc in omega arith)
+    go (Ok k) i a =
         mended k.sound a (small s (plan_written s room k i).short (plan_written s room k i).kept)

@@ -1,11 +1,10 @@
 -- What holds of every salvaging (document 02, K2).
-use Rattle.std.specs.Prelude.{◌≡◌, List, [], ◌++◌, map, ◌⊎◌, ◌↔◌, ℕ, suc, ◌+◌, ◌<◌, ◌≤◌, length, get_or, take, drop}
+use Rattle.std.specs.Prelude.{◌≡◌, List, [], ◌++◌, map, ◌⊎◌, ◌↔◌, ℕ, suc, ◌+◌, ◌<◌, ◌≤◌, length, get_or, take, drop, Ok}
 use Rattle.blocks.specs.Blocks.{block_at}
 use Rattle.blocks.specs.Walk.{longest, after_head, walked_of}
 use Rattle.blocks.specs.Frames.{bytes_at, voices_from, spans_of, payloads_of, frames_in, frames_of}
 use Rattle.blocks.specs.Made.{Bytes, voice_blocks, made}
 use Rattle.blocks.specs.declared.Block.TheVariants.{Head}
-use Rattle.blocks.specs.declared.Ending.TheVariants as Ending
 use Rattle.blocks.specs.declared.Heading.{Heading}
 use Rattle.kept.specs.Keeping.{kept_of, first_frames, frames_kept}
 use Rattle.salvage.specs.Salvaging.{result_of, changes_of, salvage_of, buffer_of, refusal_of, tells_of}
@@ -23,7 +22,7 @@ SalvageRefuses =
     → ((refusal_of (salvage_of s room) ≡ 1) ↔ ((longest < length s) ⊎ (room ≡ longest → ⊥)))
     × ((refusal_of (salvage_of s room) ≡ 12)
     ↔ (((length s ≤ longest) × (room ≡ longest))
-    × (((heading : Heading) → block_at s 0 ≡ Head heading → ⊥) ⊎ (frames_in (kept_of s) ≡ []))))
+    × (((heading : Heading) → block_at s 0 ≡ Ok (Head heading) → ⊥) ⊎ (frames_in (kept_of s) ≡ []))))
     × (tells_of (salvage_of s room) ≡ [])
 
 -- a refusal writes nothing; else the result stands in the buffer, and the bytes past its end block are as they were
@@ -38,8 +37,8 @@ SalvageStands =
 unfoldable pub SalvagedAccepted : Type 0
 SalvagedAccepted =
     (s : List ℕ) (room : ℕ) → Salvages s room
-    → ((walked_of (result_of s)).ending ≡ Ending.Sound)
-    × (block_at s 0 ≡ Head (walked_of (result_of s)).walk.heading)
+    → ((walked_of (result_of s)).ending ≡ Ok tt)
+    × (block_at s 0 ≡ Ok (Head (walked_of (result_of s)).walk.heading))
     × (frames_of (result_of s) ≡ take (frames_kept s) (frames_in (kept_of s)))
     × (length (frames_of (result_of s)) ≡ frames_kept s)
 
@@ -54,14 +53,14 @@ KeptUpToRefusal =
 unfoldable pub SoundUnchanged : Type 0
 SoundUnchanged =
     (s : List ℕ)
-    → ((salvage_of s longest ≡ Sound) ↔ ((walked_of s).ending ≡ Ending.Sound))
-    × (Bytes s → (walked_of s).ending ≡ Ending.Sound → result_of s ≡ s)
+    → ((salvage_of s longest ≡ Ok Sound) ↔ ((walked_of s).ending ≡ Ok tt))
+    × (Bytes s → (walked_of s).ending ≡ Ok tt → result_of s ≡ s)
 
 -- salvaging again changes nothing
 unfoldable pub SalvagedAgain : Type 0
 SalvagedAgain =
     (s : List ℕ) (room : ℕ) → Salvages s room
-    → (salvage_of (result_of s) longest ≡ Sound) × (result_of (result_of s) ≡ result_of s)
+    → (salvage_of (result_of s) longest ≡ Ok Sound) × (result_of (result_of s) ≡ result_of s)
 
 -- last frames go, as few as will do: with one more the result would pass 65,536 bytes. No more than one ever goes,
 -- since only the fresh end can be too much, and one is always kept.

@@ -1,16 +1,16 @@
 -- What salvaging writes and answers (document 02, K2): "It writes these and a fresh end into a lent buffer of 65,536
 -- bytes, whose bytes past that end block stay, and lists each change: bytes dropped from where, frames kept, end
 -- written. A sound recording comes out unchanged with an empty list."
-use Rattle.std.specs.Prelude.{cond, List, [], ◌++◌, ℕ, ◌+◌, ◌-◌, length, drop}
+use Rattle.std.specs.Prelude.{cond, List, [], ◌++◌, ℕ, ◌+◌, ◌-◌, length, drop, Result, Ok, Err}
+use Rattle.kept.specs.declared.Keep.{Keep}
+use Rattle.kept.specs.declared.Unsalvaged.{Unsalvaged}
 use Rattle.blocks.specs.Walk.{after_head, walked_of}
 use Rattle.blocks.specs.Made.{voice_blocks, made}
 use Rattle.kept.specs.Keeping.{frames_kept, voices_kept}
 use Rattle.kept.specs.Planning.{number_of, plan_of}
-use Rattle.kept.specs.declared.Plan.{Plan}
-use Rattle.kept.specs.declared.Plan.TheVariants.{Written, Nothing}
 use Rattle.salvage.specs.declared.Changes.{Changes}
 use Rattle.salvage.specs.declared.Salvaged.{Salvaged}
-use Rattle.salvage.specs.declared.Salvaged.TheVariants.{Sound, Mended, Refused}
+use Rattle.salvage.specs.declared.Salvaged.TheVariants.{Sound, Mended}
 
 -- the result
 unfoldable pub result_of : List ℕ → List ℕ
@@ -32,35 +32,35 @@ changes_of s =
     }
 
 -- the answer, by what is planned
-abbrev pub answer_of : List ℕ → Plan → Salvaged
-answer_of s (Nothing why) = Refused why
-answer_of s (Written keep) = cond keep.sound Sound (Mended (changes_of s))
+abbrev pub answer_of : List ℕ → Result Keep Unsalvaged → Result Salvaged Unsalvaged
+answer_of s (Err why) = Err why
+answer_of s (Ok keep) = Ok (cond keep.sound Sound (Mended (changes_of s)))
 
-unfoldable pub salvage_of : List ℕ → ℕ → Salvaged
+unfoldable pub salvage_of : List ℕ → ℕ → Result Salvaged Unsalvaged
 salvage_of s room = answer_of s (plan_of s room)
 
 -- the lent buffer then: the result and the bytes past it as they were; a refusal writes nothing
-abbrev pub buffer_by : Salvaged → List ℕ → List ℕ → List ℕ
-buffer_by Sound result o = result ++ drop (length result) o
-buffer_by (Mended changes) result o = result ++ drop (length result) o
-buffer_by (Refused why) result o = o
+abbrev pub buffer_by : Result Salvaged Unsalvaged → List ℕ → List ℕ → List ℕ
+buffer_by (Ok Sound) result o = result ++ drop (length result) o
+buffer_by (Ok (Mended changes)) result o = result ++ drop (length result) o
+buffer_by (Err why) result o = o
 
 unfoldable pub buffer_of : List ℕ → List ℕ → List ℕ
 buffer_of s o = buffer_by (salvage_of s (length o)) (result_of s) o
 
 -- how many of its bytes are the result of so many; a refusal has none
-abbrev pub long_of : ℕ → Salvaged → ℕ
-long_of long Sound = long
-long_of long (Mended changes) = changes.long
-long_of long (Refused why) = 0
+abbrev pub long_of : ℕ → Result Salvaged Unsalvaged → ℕ
+long_of long (Ok Sound) = long
+long_of long (Ok (Mended changes)) = changes.long
+long_of long (Err why) = 0
 
 -- the number of a refusal, and what it tells; 0 is no refusal
-abbrev pub refusal_of : Salvaged → ℕ
-refusal_of Sound = 0
-refusal_of (Mended changes) = 0
-refusal_of (Refused why) = number_of why
+abbrev pub refusal_of : Result Salvaged Unsalvaged → ℕ
+refusal_of (Ok Sound) = 0
+refusal_of (Ok (Mended changes)) = 0
+refusal_of (Err why) = number_of why
 
-abbrev pub tells_of : Salvaged → List ℕ
-tells_of Sound = []
-tells_of (Mended changes) = []
-tells_of (Refused why) = []
+abbrev pub tells_of : Result Salvaged Unsalvaged → List ℕ
+tells_of (Ok Sound) = []
+tells_of (Ok (Mended changes)) = []
+tells_of (Err why) = []

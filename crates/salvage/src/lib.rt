@@ -5,8 +5,6 @@
 ghost use Rattle.std.specs.Prelude.{◌≡◌};
 ghost use Rattle.salvage.specs.Steps.{changes_by, answer_by};
 
-use kept::Unsalvaged;
-
 // What was changed: how many bytes were dropped and from where, how many frames were kept, where the end block was written, and the
 // length of the result.
 #[derive(Clone, Copy)]
@@ -18,12 +16,11 @@ pub struct Changes {
     pub long: usize,
 }
 
-// A sound recording, unchanged; a mended one with its changes; or why nothing was written.
+// A sound recording, unchanged, or a mended one with its changes.
 #[derive(Clone, Copy)]
 pub enum Salvaged {
     Sound,
     Mended(Changes),
-    Refused(Unsalvaged),
 }
 
 // What is answered where the end block was written at a place.
@@ -41,9 +38,8 @@ fn changes_by(long: usize, frames: u32, end: u32) -> Changes
     ensures { result ≡ changes_by long frames end }
 {
     let at = end as usize;
-    let kept = text::least(at, long);
     Changes {
-        dropped: long - kept,
+        dropped: long.saturating_sub(at),
         from: at,
         frames,
         end: at,

@@ -1,9 +1,7 @@
 // A call: how many bytes its numbers have, and what it answers.
-ghost use Rattle.std.specs.Prelude.{◌<◌};
-
 use crate::said::Said;
 use crate::words;
-use tally::{Entering, Entry};
+use tally::{Entry, RecordingRefusal};
 
 // How many bytes stand behind the byte of a call's kind; of no kind more than any input has.
 pub fn size(kind: u8, rest: &[u8]) -> usize {
@@ -29,7 +27,9 @@ fn recording_size(rest: &[u8]) -> usize {
 // What a call answers.
 pub fn make(book: &mut [u32; tally::WORDS], kind: u8, numbers: &[u8]) -> Said {
     match kind {
-        b'e' => Said::Entering(Entering::Done(entering::enter(book, entry(numbers)))),
+        b'e' => Said::Entering(entering::enter(book, entry(numbers)).map_err(
+            RecordingRefusal::NotEntered,
+        )),
         b'r' => recording(book, numbers),
         b'h' => Said::Held(asking::ask(book, word(numbers, 0), word(numbers, 4))),
         b't' => Said::Total(tally::total(book, word(numbers, 0))),
@@ -54,8 +54,8 @@ pub fn make(book: &mut [u32; tally::WORDS], kind: u8, numbers: &[u8]) -> Said {
 
 // Enters the recording of a call.
 fn recording(book: &mut [u32; tally::WORDS], numbers: &[u8]) -> Said {
-    let start = text::least(8, numbers.len());
-    Said::Entering(entering::enter_recording(book, &numbers[start..], word(numbers, 0)))
+    let bytes = numbers.get(8..).unwrap_or(&[]);
+    Said::Entering(entering::enter_recording(book, bytes, word(numbers, 0)))
 }
 
 // The entry of a call.
@@ -67,20 +67,10 @@ fn entry(numbers: &[u8]) -> Entry {
     }
 }
 
-// Four bytes from a place on as a number, the lowest first; those that are not there are 0.
+// Four bytes from a place on as a number, the lowest first; 0 where they are not all there.
 pub fn word(s: &[u8], at: usize) -> u32 {
-    if s.len() < 4 {
-        return 0;
+    match s.get(at..).and_then(|rest| rest.first_chunk()) {
+        Some(four) => u32::from_le_bytes(*four),
+        None => 0,
     }
-    if s.len() - 4 < at {
-        return 0;
-    }
-    byte(s[at]) + 256 * (byte(s[at + 1]) + 256 * (byte(s[at + 2]) + 256 * byte(s[at + 3])))
-}
-
-// A byte as a wider number.
-fn byte(b: u8) -> u32
-    ensures { result < 256 }
-{
-    b as u32
 }

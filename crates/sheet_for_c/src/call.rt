@@ -1,6 +1,4 @@
 // A call: how many bytes its numbers have, and what it answers.
-ghost use Rattle.std.specs.Prelude.{◌<◌};
-
 use crate::said::Said;
 use crate::words;
 
@@ -58,14 +56,9 @@ pub fn make(book: &mut [u32; tally::WORDS], kind: u8, numbers: &[u8]) -> Said {
 
 // Enters the recording of a call.
 fn recording(book: &mut [u32; tally::WORDS], numbers: &[u8]) -> Said {
-    let start = text::least(8, numbers.len());
+    let bytes = numbers.get(8..).unwrap_or(&[]);
     let mut told = [9usize; 5];
-    let result = ledger::oatlantern_tally_enter_recording(
-        book,
-        &numbers[start..],
-        word(numbers, 0),
-        &mut told,
-    );
+    let result = ledger::oatlantern_tally_enter_recording(book, bytes, word(numbers, 0), &mut told);
     Said::Recording(result, told[0], told[1], told[2], told[3], told[4])
 }
 
@@ -76,20 +69,10 @@ fn held(book: &[u32; tally::WORDS], unit: u32, number: u32) -> Said {
     Said::Held(result, count[0])
 }
 
-// Four bytes from a place on as a number, the lowest first; those that are not there are 0.
+// Four bytes from a place on as a number, the lowest first; 0 where they are not all there.
 pub fn word(s: &[u8], at: usize) -> u32 {
-    if s.len() < 4 {
-        return 0;
+    match s.get(at..).and_then(|rest| rest.first_chunk()) {
+        Some(four) => u32::from_le_bytes(*four),
+        None => 0,
     }
-    if s.len() - 4 < at {
-        return 0;
-    }
-    byte(s[at]) + 256 * (byte(s[at + 1]) + 256 * (byte(s[at + 2]) + 256 * byte(s[at + 3])))
-}
-
-// A byte as a wider number.
-fn byte(b: u8) -> u32
-    ensures { result < 256 }
-{
-    b as u32
 }

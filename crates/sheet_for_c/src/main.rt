@@ -1,52 +1,53 @@
 // Makes the calls that stand on standard input on one tally book, which is empty at first, and prints what each
 // answers. outside/CASES.md has the form of a call and its line.
+// `sheet` reads its calls by the same text: in a library each function of it would need a contract that determines it and
+// wrong programs of its own, which the rules ask of a library and not of a test program.
 #![tactic(auto)]
 
 mod call;
 mod said;
 mod words;
 
-use input::Input;
+use std::io::{self, Write};
 
 fn main(rt: HostRuntime) {
     let mut calls = [0u8; 262144];
-    match input::read_all(&mut rt.stdin(), &mut calls) {
-        Input::Failed => {}
-        Input::Bytes(n) => {
-            let mut book = [0u32; tally::WORDS];
-            run(&calls[..n], &mut book);
-        }
-    }
+    let Ok(n) = input::read_all(&mut rt.stdin(), &mut calls) else {
+        return;
+    };
+    let mut book = [0u32; tally::WORDS];
+    let _ = run(&mut rt.stdout(), &calls[..n], &mut book);
 }
 
 // Makes call after call, to the end or to one that is cut or of no kind.
-fn run(s: &[u8], book: &mut [u32; tally::WORDS]) {
+fn run(out: &mut impl Write, s: &[u8], book: &mut [u32; tally::WORDS]) -> io::Result<()> {
     let mut more = 0;
-    let mut at = 0;
-    while at < s.len() {
-        let kind = s[at];
-        let first = at + 1;
-        let long = call::size(kind, &s[first..]);
-        if s.len() - first < long {
-            return;
-        }
-        let end = first + long;
-        if kind == b'm' {
-            more = call::word(s, first);
+    let mut left = s;
+    while let Some((kind, rest)) = left.split_first() {
+        let Some((numbers, after)) = rest.split_at_checked(call::size(*kind, rest)) else {
+            return Ok(());
+        };
+        if *kind == b'm' {
+            more = call::word(numbers, 0);
         } else {
-            repeat(book, kind, &s[first..end], more);
+            repeat(out, book, *kind, numbers, more)?;
             more = 0;
         }
-        at = end;
+        left = after;
     }
+    Ok(())
 }
 
 // Makes a call so many times more than once, and says what it answers last.
-fn repeat(book: &mut [u32; tally::WORDS], kind: u8, numbers: &[u8], more: u32) {
-    let mut k = 0;
-    while k < more {
+fn repeat(
+    out: &mut impl Write,
+    book: &mut [u32; tally::WORDS],
+    kind: u8,
+    numbers: &[u8],
+    more: u32,
+) -> io::Result<()> {
+    for _ in 0..more {
         call::make(book, kind, numbers);
-        k += 1;
     }
-    said::say(call::make(book, kind, numbers));
+    said::say(out, call::make(book, kind, numbers))
 }

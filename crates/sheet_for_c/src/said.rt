@@ -1,5 +1,5 @@
 // What a call answers, and its line.
-use input::STDOUT;
+use std::io::{self, Write};
 
 #[derive(Clone, Copy)]
 pub enum Said {
@@ -14,40 +14,32 @@ pub enum Said {
 }
 
 // Prints the line of an answer.
-pub fn say(answer: Said) {
+pub fn say(out: &mut impl Write, answer: Said) -> io::Result<()> {
     match answer {
         Said::Entered(result) => {
-            say_entered(result);
-            say_words(b"\n");
+            say_entered(out, result)?;
+            writeln!(out)
         }
         Said::Recording(result, unit, number, place, size, cause) => {
-            say_entered(result);
-            say_words(b" told ");
-            say_told(unit, number);
-            say_told(place, size);
-            say_number(b"", cause as u64);
+            say_entered(out, result)?;
+            writeln!(out, " told {unit} {number} {place} {size} {cause}")
         }
-        Said::Held(result, count) => say_held(result, count),
-        Said::Total(total) => say_number(b"total ", total),
-        Said::Entries(entries) => say_number(b"entries ", entries as u64),
-        Said::Book(number) => say_number(b"book ", number),
-        Said::Cleared => say_words(b"cleared\n"),
-        Said::Nothing => {}
+        Said::Held(result, count) => say_held(out, result, count),
+        Said::Total(total) => writeln!(out, "total {total}"),
+        Said::Entries(entries) => writeln!(out, "entries {entries}"),
+        Said::Book(number) => writeln!(out, "book {number}"),
+        Said::Cleared => writeln!(out, "cleared"),
+        Said::Nothing => Ok(()),
     }
 }
 
 // What entering comes to, an entry or a recording.
-fn say_entered(res: i32) {
+fn say_entered(out: &mut impl Write, res: i32) -> io::Result<()> {
     match res {
-        0 => say_words(b"entered"),
-        1 => say_words(b"already held"),
-        _ => say_refused(res),
+        0 => write!(out, "entered"),
+        1 => write!(out, "already held"),
+        _ => write!(out, "refused {}", number_of(res)),
     }
-}
-
-fn say_refused(res: i32) {
-    say_words(b"refused ");
-    io::print_decimal(STDOUT, number_of(res));
 }
 
 // The refusal that a result is.
@@ -65,35 +57,10 @@ fn number_of(res: i32) -> u64 {
 }
 
 // A held key has 1 and its count. The number that is lent is 9 before, and is shown where the key is not held.
-fn say_held(res: i32, count: u32) {
-    match res {
-        1 => say_number(b"held ", count as u64),
-        0 => say_not_held(count),
-        _ => {}
+fn say_held(out: &mut impl Write, res: i32, count: u32) -> io::Result<()> {
+    match (res, count) {
+        (1, _) => writeln!(out, "held {count}"),
+        (0, 9) => writeln!(out, "not held"),
+        _ => Ok(()),
     }
-}
-
-fn say_not_held(count: u32) {
-    if count == 9 {
-        say_words(b"not held\n");
-    }
-}
-
-// Two of the numbers that are told.
-fn say_told(first: usize, second: usize) {
-    io::print_decimal(STDOUT, first as u64);
-    say_words(b" ");
-    io::print_decimal(STDOUT, second as u64);
-    say_words(b" ");
-}
-
-// A word and a number on a line.
-fn say_number(word: &[u8], number: u64) {
-    say_words(word);
-    io::print_decimal(STDOUT, number);
-    say_words(b"\n");
-}
-
-fn say_words(words: &[u8]) {
-    io::write_all(STDOUT, words);
 }

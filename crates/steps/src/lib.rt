@@ -5,62 +5,56 @@ ghost use Rattle.std.specs.Prelude.{◌≡◌, ◌≤◌};
 ghost use Rattle.blocks.specs.Walk.{longest};
 ghost use Rattle.passes.specs.Counted.{repair_of, breaks_at, break_of, counting_of};
 ghost use Rattle.passes.specs.Pass.{ahead_of, past_frame, step_by, next_of};
-ghost use Rattle.blocks.specs.declared.Found.TheVariants.{At, Nothing};
 
 use blocks::Found;
-use frame::Correction;
+use frame::{Correction, Reading};
 use passes::{Counts, Hearing, Pass, Step};
-use values::{LastSy, Values};
+use values::Values;
 
 // The next frame of any pass through any bytes.
 pub fn next(s: &[u8], pass: Pass) -> Step
     ensures { result ≡ next_of s.now pass }
 {
     match ahead(pass, s) {
-        Found::Nothing => stay(pass, s),
-        Found::At(first, rest) => hear(pass, s, first, rest),
+        None => stay(pass, s),
+        Some(found) => hear(pass, s, found),
     }
 }
 
 // Where the next frame stands. A pass that was not begun here is at its end.
-fn ahead(pass: Pass, s: &[u8]) -> Found
+fn ahead(pass: Pass, s: &[u8]) -> Option<Found>
     ensures { result ≡ ahead_of s.now pass }
 {
     let passed = pass.frames;
-    if 65536 < passed {
-        return Found::Nothing;
-    }
-    if passed < pass.counts.repaired {
-        return Found::Nothing;
-    }
-    if passed < pass.counts.breaks {
-        return Found::Nothing;
+    if 65536 < passed || passed < pass.counts.repaired || passed < pass.counts.breaks {
+        return None;
     }
     voices::find(s, pass.at, pass.left)
 }
 
 // At the end nothing is heard, and the pass stays where it is.
 fn stay(pass: Pass, s: &[u8]) -> Step
-    ensures { result ≡ step_by s.now pass Nothing }
+    ensures { result ≡ step_by s.now pass None }
 {
-    let reading = reader::read(&s[..0]);
+    let reading = Reading::nothing();
     let values = Values::nothing(pass.state);
     let hearing = Hearing { reading, values };
     Step { hearing, pass }
 }
 
-// The frame at a place is heard, and the pass goes past it; `rest` bytes of its voice block come after it.
-fn hear(pass: Pass, s: &[u8], first: usize, rest: usize) -> Step
-    requires { ahead_of s.now pass ≡ At first rest }
-    ensures { result ≡ step_by s.now pass (At first rest) }
+// The frame that was found is heard, and the pass goes past it.
+fn hear(pass: Pass, s: &[u8], found: Found) -> Step
+    requires { ahead_of s.now pass ≡ Some found }
+    ensures { result ≡ step_by s.now pass (Some found) }
 {
+    let first = found.first;
     let end = first + 18;
-    let reading = reader::read(&s[first..end]);
+    let reading = reader::read(&s[first..end]).unwrap_or(Reading::nothing());
     let values = decoder::values_of(reading.indices, pass.state);
     let hearing = Hearing { reading, values };
     Step {
         hearing,
-        pass: past(pass, hearing, end, rest),
+        pass: past(pass, hearing, end, found.rest),
     }
 }
 
@@ -72,9 +66,8 @@ fn past(pass: Pass, hearing: Hearing, end: usize, left: usize) -> Pass
     ensures { result ≡ past_frame pass hearing end left }
 {
     let frames = pass.frames + 1;
-    let correction = correction_in(hearing);
-    let last = last_before(pass);
-    let at = breaks_at(last);
+    let correction = hearing.reading.correction;
+    let at = breaks_at(last_before(pass));
     let counts = counted(pass.counts, correction, hearing.reading.indices.sy, at);
     let state = hearing.values.state;
     Pass {
@@ -86,31 +79,20 @@ fn past(pass: Pass, hearing: Hearing, end: usize, left: usize) -> Pass
     }
 }
 
-// What correction did in a frame that was heard.
-fn correction_in(hearing: Hearing) -> Correction
-    ensures { result ≡ hearing.reading.correction }
-{
-    let reading = hearing.reading;
-    let correction = reading.correction;
-    correction
-}
-
 // The last SY before the next frame of a pass, in whichever voice block that stands.
-fn last_before(pass: Pass) -> LastSy
+fn last_before(pass: Pass) -> Option<u16>
     ensures { result ≡ pass.state.last }
 {
-    let state = pass.state;
-    let last = state.last;
-    last
+    pass.state.last
 }
 
 // The SY at which the next frame is a sync break: that of the frame before it, or 1 where there was none.
-fn breaks_at(last: LastSy) -> u16
+fn breaks_at(last: Option<u16>) -> u16
     ensures { result ≡ breaks_at last }
 {
     match last {
-        LastSy::Never => 1,
-        LastSy::Was(sy) => sy,
+        None => 1,
+        Some(sy) => sy,
     }
 }
 
@@ -140,8 +122,5 @@ fn repair_by(correction: Correction) -> u32
 fn break_by(sy: u16, at: u16) -> u32
     ensures { result ≡ break_of sy at }
 {
-    if sy == at {
-        return 1;
-    }
-    0
+    u32::from(sy == at)
 }

@@ -4,67 +4,68 @@
 
 mod case;
 
-use excitation::Excited;
-use input::{STDIN, STDOUT};
+use excitation::{Refusal, Register};
+use std::io::{self, Read, Write};
 
-// Nothing says that the input ends, so the turns are counted down from a number that no input uses up.
-fn main() {
-    let mut turns = u64::MAX;
-    while 0 < turns && one() {
-        turns -= 1;
-    }
+fn main(rt: HostRuntime) {
+    let _ = all(&mut rt.stdin(), &mut rt.stdout());
 }
 
-// One case: 604 bytes. Answers whether there was one.
-fn one() -> bool {
+// Case after case, of 604 bytes each. Nothing says that the input ends, so there are as many turns as no input uses up.
+fn all(stdin: &mut impl Read, out: &mut impl Write) -> io::Result<()> {
     let mut given = [0u8; 604];
-    let n = io::read_full(STDIN, &mut given);
-    if n < 604 {
-        return false;
+    for _ in 0..u64::MAX {
+        if input::read_all(stdin, &mut given)? < 604 {
+            break;
+        }
+        answer(out, &given)?;
     }
-    answer(&given);
-    true
+    Ok(())
 }
 
 // The case in a room of 62 elements.
-fn answer(given: &[u8]) {
+fn answer(out: &mut impl Write, given: &[u8]) -> io::Result<()> {
     let mut room = [7i32; 62];
-    run(given, &mut room);
+    run(out, given, &mut room)
 }
 
 // Makes the excitation of a case in as many elements of the room as it says, and prints its line.
-fn run(given: &[u8], room: &mut [i32]) {
-    let long = text::least(case::high(given, 600) as usize, room.len());
-    let excited = made(given, &mut room[..long]);
-    told(excited, room);
+fn run(out: &mut impl Write, given: &[u8], room: &mut [i32]) -> io::Result<()> {
+    let long = usize::from(case::half(given, 602)).min(room.len());
+    let mut register = case::register(given);
+    let outcome = made(given, &mut register, &mut room[..long]);
+    told(out, outcome, room, &register)
 }
 
 // The excitation of a case, made once and so many times more, each from the register that was left.
-fn made(given: &[u8], out: &mut [i32]) -> Excited {
+fn made(given: &[u8], register: &mut Register, part: &mut [i32]) -> Result<(), Refusal> {
     let times = case::word(given, 0);
     let delay = case::word(given, 592);
-    let pg = case::low(given, 596);
-    let ci = case::high(given, 596);
-    let cg = case::low(given, 600);
-    let mut excited = exciter::excite(case::register(given), delay, pg, ci, cg, out);
-    let mut k = 0;
-    while k < times {
-        let before = excited.register;
-        excited = exciter::excite(before, delay, pg, ci, cg, out);
-        k += 1;
+    let pg = case::half(given, 596);
+    let ci = case::half(given, 598);
+    let cg = case::half(given, 600);
+    let mut outcome = exciter::excite(register, delay, pg, ci, cg, part);
+    for _ in 0..times {
+        outcome = exciter::excite(register, delay, pg, ci, cg, part);
     }
-    excited
+    outcome
 }
 
 // The line of a case: the refusal's number, the room, and the register.
-fn told(excited: Excited, room: &[i32]) {
-    let mut out = [0u8; 4096];
-    let outcome = excited.outcome;
-    let register = excited.register;
-    let elements = register.elements;
-    let number = decimals::put_number(&mut out, 0, outcome.refusal_number() as u64);
-    let buffer = decimals::put_list(&mut out, number, room);
-    let after = decimals::put_list(&mut out, buffer, &elements);
-    let end = text::put_byte(&mut out, after, b'\n');
-    io::write_all(STDOUT, &out[..end]);
+fn told(
+    out: &mut impl Write,
+    outcome: Result<(), Refusal>,
+    room: &[i32],
+    register: &Register,
+) -> io::Result<()> {
+    let mut line = [0; 4096];
+    let refusal = match outcome {
+        Ok(()) => 0,
+        Err(refusal) => refusal.refusal_number(),
+    };
+    let number = decimals::put_number(&mut line, 0, u64::from(refusal));
+    let buffer = decimals::put_list(&mut line, number, room);
+    let after = decimals::put_list(&mut line, buffer, &register.elements);
+    let end = text::put_byte(&mut line, after, b'\n');
+    out.write_all(&line[..end])
 }

@@ -4,63 +4,58 @@
 
 mod case;
 
-use input::{STDIN, STDOUT};
+use std::io::{self, Read, Write};
 
-// Nothing says that the input ends, so the turns are counted down from a number that no input uses up.
-fn main() {
-    let mut turns = u64::MAX;
-    while 0 < turns && one() {
-        turns -= 1;
-    }
+fn main(rt: HostRuntime) {
+    let _ = all(&mut rt.stdin(), &mut rt.stdout());
 }
 
-// One case: 604 bytes. Answers whether there was one.
-fn one() -> bool {
+// Case after case, of 604 bytes each. Nothing says that the input ends, so there are as many turns as no input uses up.
+fn all(stdin: &mut impl Read, out: &mut impl Write) -> io::Result<()> {
     let mut given = [0u8; 604];
-    let n = io::read_full(STDIN, &mut given);
-    if n < 604 {
-        return false;
+    for _ in 0..u64::MAX {
+        if input::read_all(stdin, &mut given)? < 604 {
+            break;
+        }
+        answer(out, &given)?;
     }
-    answer(&given);
-    true
+    Ok(())
 }
 
 // The case in a room of 62 elements.
-fn answer(given: &[u8]) {
+fn answer(out: &mut impl Write, given: &[u8]) -> io::Result<()> {
     let mut room = [7i32; 62];
-    run(given, &mut room);
+    run(out, given, &mut room)
 }
 
 // Makes the excitation of a case in as many elements of the room as it says, and prints its line.
-fn run(given: &[u8], room: &mut [i32]) {
-    let long = text::least(case::high(given, 600) as usize, room.len());
+fn run(out: &mut impl Write, given: &[u8], room: &mut [i32]) -> io::Result<()> {
+    let long = usize::from(case::half(given, 602)).min(room.len());
     let mut past = case::register(given);
     let result = made(given, &mut past, &mut room[..long]);
-    told(result, room, &past);
+    told(out, result, room, &past)
 }
 
 // The excitation of a case, made once and so many times more, each from the register that was left.
-fn made(given: &[u8], past: &mut [i32; 147], out: &mut [i32]) -> i32 {
+fn made(given: &[u8], past: &mut [i32; 147], part: &mut [i32]) -> i32 {
     let times = case::word(given, 0);
     let delay = case::word(given, 592);
-    let pg = case::low(given, 596);
-    let ci = case::high(given, 596);
-    let cg = case::low(given, 600);
-    let mut result = player::oatlantern_excite(past, delay, pg, ci, cg, out);
-    let mut k = 0;
-    while k < times {
-        result = player::oatlantern_excite(past, delay, pg, ci, cg, out);
-        k += 1;
+    let pg = case::half(given, 596);
+    let ci = case::half(given, 598);
+    let cg = case::half(given, 600);
+    let mut result = player::oatlantern_excite(past, delay, pg, ci, cg, part);
+    for _ in 0..times {
+        result = player::oatlantern_excite(past, delay, pg, ci, cg, part);
     }
     result
 }
 
 // The line of a case: the result, the room, and the register.
-fn told(res: i32, room: &[i32], past: &[i32; 147]) {
-    let mut out = [0u8; 4096];
-    let number = decimals::put_signed(&mut out, 0, res);
-    let buffer = decimals::put_list(&mut out, number, room);
-    let after = decimals::put_list(&mut out, buffer, past);
-    let end = text::put_byte(&mut out, after, b'\n');
-    io::write_all(STDOUT, &out[..end]);
+fn told(out: &mut impl Write, res: i32, room: &[i32], past: &[i32; 147]) -> io::Result<()> {
+    let mut line = [0; 4096];
+    let number = decimals::put_signed(&mut line, 0, res);
+    let buffer = decimals::put_list(&mut line, number, room);
+    let after = decimals::put_list(&mut line, buffer, past);
+    let end = text::put_byte(&mut line, after, b'\n');
+    out.write_all(&line[..end])
 }

@@ -4,8 +4,8 @@ use contract.Lifetimes.{Lfts}
 use denote.Triple.Clauses.{AtExit}
 use borrow.Fn.Kinds.{Dens, res_t, ended_of}
 use mathlib.Core.Path.{◌≡◌, ◌∙◌, sym}
-use Rattle.tally.proofs.Tallied.refusal_number.Kinds as refusal-number
-use Rattle.tally.proofs.Tallied.refusal_number.Reads as refusal-number-reads
+use Rattle.tally.proofs.Refusal.refusal_number.Kinds as refusal-number
+use Rattle.tally.proofs.Refusal.refusal_number.Reads as refusal-number-reads
 use Rattle.tally.proofs.clear.Kinds as clear
 use Rattle.tally.proofs.clear.Reads as clear_reads
 use Rattle.tally.proofs.entries.Kinds as entries

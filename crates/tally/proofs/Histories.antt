@@ -5,7 +5,7 @@ use mathlib.Core.Bool.{Bool, true, false, cond}
 use mathlib.Core.List.Memᴰ
 use mathlib.Core.List.{List, [], ◌∷◌, ◌++◌, append-nil, append_assoc}
 use mathlib.Core.Logic.{⊎_elim}
-use Prim.Native.Nat.{ℕ, ◌+◌, ◌<◌}
+use Prim.Native.Nat.{ℕ, ◌<◌}
 use native.Mathlib.Omega.{arith}
 use native.Mathlib.Decide.{ℕ_discrete}
 use borrow.Author.Tests.{eq-eqb, ne_eqb}
@@ -17,22 +17,23 @@ use Rattle.tally.specs.Tally.{most, has_key, holding_in, tally_of, entries_then,
 use Rattle.tally.specs.History.{without, distinct, Among, Agreeing, Fitting, Reordered, none, next, swapped}
 use Rattle.tally.specs.History.{further}
 use Rattle.tally.specs.declared.Entry.{Entry}
-use Rattle.tally.specs.declared.Holding.{Holding}
-use Rattle.tally.specs.declared.Holding.TheVariants.{Count, Nothing}
-use Rattle.tally.specs.declared.Tallied.{Tallied}
-use Rattle.tally.specs.declared.Tallied.TheVariants.{Entered, AlreadyHeld, OtherCount, Full}
 use Rattle.tally.proofs.Keys.{key_of, key_turned, entry_is, holding_new, holding_stays, holding_same, held_among}
 use Rattle.tally.proofs.Keys.{none_at, beyond, distinct_holds, distinct_held, distinct_new}
 use Rattle.tally.proofs.Ways.{held_by, Way, held, other, full, new, ways, entries_are, Taken, again, fresh, taken}
 use Rattle.tally.proofs.Ways.{taken_answers, then_again, then_fresh, Same, same_refl, same_trans, same_then}
 use Rattle.tally.proofs.Ways.{exchanged}
+use Rattle.std.specs.Prelude.{Option, Some, None, Result, Ok, Err}
+use Rattle.tally.specs.declared.Tallied.{Tallied}
+use Rattle.tally.specs.declared.Tallied.TheVariants.{Entered, AlreadyHeld}
+use Rattle.tally.specs.declared.Refusal.{Refusal}
+use Rattle.tally.specs.declared.Refusal.TheVariants.{OtherCount, Full}
 
 -- the entries after some are entered, and those of them that are accepted
 unfoldable pub after : List Entry → List Entry → List Entry
 after es [] = es
 after es (e ∷ l) = after (entries_then es e) l
 
-abbrev pub if_taken : Tallied → Entry → List Entry
+abbrev pub if_taken : Result Tallied Refusal → Entry → List Entry
 if_taken t e = cond (eqb (number_of t) 0) (e ∷ []) []
 
 unfoldable pub accepts : List Entry → List Entry → List Entry
@@ -54,7 +55,7 @@ accepts_append es (e ∷ k) l =
     (accepts (after (entries_then es e) k) l))
 
 -- a step of each, by what is answered and what the entries then are
-module _ (es : List Entry) (e : Entry) (l : List Entry) {t : Tallied} {fs : List Entry} (answer : tally_of es e ≡ t)
+module _ (es : List Entry) (e : Entry) (l : List Entry) {t : Result Tallied Refusal} {fs : List Entry} (answer : tally_of es e ≡ t)
     (later : entries_then es e ≡ fs) where
   after_step : after es (e ∷ l) ≡ after fs l
   unfolding after
@@ -62,7 +63,7 @@ module _ (es : List Entry) (e : Entry) (l : List Entry) {t : Tallied} {fs : List
 
   accepts_step : accepts es (e ∷ l) ≡ if_taken t e ++ accepts fs l
   unfolding accepts
-  accepts_step = ap₂ (λ (u : Tallied) (x : List Entry). if_taken u e ++ accepts x l) answer later
+  accepts_step = ap₂ (λ (u : Result Tallied Refusal) (x : List Entry). if_taken u e ++ accepts x l) answer later
 
 -- one entry more in a list, before others
 one_more : (p l : List Entry) (e : Entry) → (p ++ (e ∷ [])) ++ l ≡ p ++ (e ∷ l)
@@ -71,13 +72,13 @@ one_more p l e = append_assoc p (e ∷ []) l
 -- ---- the entries are the first of each key among the accepted
 
 -- behind an accepted entry of a new key, or of one that is held
-held_first : (p : List Entry) (e : Entry) {es : List Entry} {c : ℕ} → es ≡ distinct p → held_by es e ≡ Count c
+held_first : (p : List Entry) (e : Entry) {es : List Entry} {c : ℕ} → es ≡ distinct p → held_by es e ≡ Some c
     → es ≡ distinct (p ++ (e ∷ []))
 held_first p e f h =
     f ∙ sym (distinct_held p e (sym (distinct_holds p e.unit e.number)
     ∙ sym (ap (λ (x : List Entry). held_by x e) f) ∙ h))
 
-new_first : (p : List Entry) (e : Entry) {es : List Entry} → es ≡ distinct p → held_by es e ≡ Nothing
+new_first : (p : List Entry) (e : Entry) {es : List Entry} → es ≡ distinct p → held_by es e ≡ None
     → es ++ (e ∷ []) ≡ distinct (p ++ (e ∷ []))
 unfolding distinct without beyond
 new_first p e f h =
@@ -88,7 +89,7 @@ new_first p e f h =
 -- what a step comes to, given what the rest does
 module _ (e : Entry) (l p es : List Entry) (f : es ≡ distinct p)
     (rest : (q fs : List Entry) → fs ≡ distinct q → after fs l ≡ distinct (q ++ accepts fs l)) where
-  taken_first : {t : Tallied} {fs : List Entry} → tally_of es e ≡ t → number_of t ≡ 0 → entries_then es e ≡ fs
+  taken_first : {t : Result Tallied Refusal} {fs : List Entry} → tally_of es e ≡ t → number_of t ≡ 0 → entries_then es e ≡ fs
       → fs ≡ distinct (p ++ (e ∷ [])) → after es (e ∷ l) ≡ distinct (p ++ accepts es (e ∷ l))
   taken_first {t} {fs} answer z later g =
       after_step es e l answer later
@@ -99,7 +100,7 @@ module _ (e : Entry) (l p es : List Entry) (f : es ≡ distinct p)
       (sym (accepts_step es e l answer later ∙ ap (λ (b : Bool). cond b (e ∷ []) [] ++ accepts fs l)
       (eq-eqb (number_of t) 0 z))))
 
-  left_first : {t : Tallied} → tally_of es e ≡ t → (number_of t ≡ 0 → ⊥) → entries_then es e ≡ es
+  left_first : {t : Result Tallied Refusal} → tally_of es e ≡ t → (number_of t ≡ 0 → ⊥) → entries_then es e ≡ es
       → after es (e ∷ l) ≡ distinct (p ++ accepts es (e ∷ l))
   left_first {t} answer z later =
       after_step es e l answer later
@@ -108,11 +109,11 @@ module _ (e : Entry) (l p es : List Entry) (f : es ≡ distinct p)
       (sym (accepts_step es e l answer later ∙ ap (λ (b : Bool). cond b (e ∷ []) [] ++ accepts es l)
       (ne_eqb (number_of t) 0 z)))
 
-  way_first : (t : Tallied) → tally_of es e ≡ t → Way es e t → after es (e ∷ l) ≡ distinct (p ++ accepts es (e ∷ l))
-  way_first AlreadyHeld q (held h) = taken_first q refl (entries_are es e q) (held_first p e f h)
-  way_first OtherCount q (other c h n) = left_first q (λ z. omega arith) (entries_are es e q)
-  way_first Full q (full h m) = left_first q (λ z. omega arith) (entries_are es e q)
-  way_first Entered q (new h m) = taken_first q refl (entries_are es e q) (new_first p e f h)
+  way_first : (t : Result Tallied Refusal) → tally_of es e ≡ t → Way es e t → after es (e ∷ l) ≡ distinct (p ++ accepts es (e ∷ l))
+  way_first (Ok AlreadyHeld) q (held h) = taken_first q refl (entries_are es e q) (held_first p e f h)
+  way_first (Err OtherCount) q (other c h n) = left_first q (λ z. omega arith) (entries_are es e q)
+  way_first (Err Full) q (full h m) = left_first q (λ z. omega arith) (entries_are es e q)
+  way_first (Ok Entered) q (new h m) = taken_first q refl (entries_are es e q) (new_first p e f h)
 
 pub firsts : (l p es : List Entry) → es ≡ distinct p → after es l ≡ distinct (p ++ accepts es l)
 unfolding after accepts
@@ -122,37 +123,35 @@ firsts (e ∷ l) p es f = way_first e l p es f (firsts l) (tally_of es e) refl (
 -- ---- what is accepted is held
 
 -- what is held stays held
-then_stays : (es : List Entry) (e : Entry) (unit number : ℕ) {c : ℕ} → holding_in es unit number ≡ Count c
-    → holding_in (entries_then es e) unit number ≡ Count c
+then_stays : (es : List Entry) (e : Entry) (unit number : ℕ) {c : ℕ} → holding_in es unit number ≡ Some c
+    → holding_in (entries_then es e) unit number ≡ Some c
 then_stays es e unit number {c} h = by (tally_of es e) refl
   where
-    by : (t : Tallied) → tally_of es e ≡ t → holding_in (entries_then es e) unit number ≡ Count c
-    by Entered q =
+    by : (t : Result Tallied Refusal) → tally_of es e ≡ t → holding_in (entries_then es e) unit number ≡ Some c
+    by (Ok Entered) q =
         ap (λ (x : List Entry). holding_in x unit number) (entries_are es e q) ∙ holding_stays es (e ∷ []) unit number h
-    by AlreadyHeld q = ap (λ (x : List Entry). holding_in x unit number) (entries_are es e q) ∙ h
-    by OtherCount q = ap (λ (x : List Entry). holding_in x unit number) (entries_are es e q) ∙ h
-    by Full q = ap (λ (x : List Entry). holding_in x unit number) (entries_are es e q) ∙ h
+    by (Ok AlreadyHeld) q = ap (λ (x : List Entry). holding_in x unit number) (entries_are es e q) ∙ h
+    by (Err refusal) q = ap (λ (x : List Entry). holding_in x unit number) (entries_are es e q) ∙ h
 
-after_stays : (l es : List Entry) (unit number : ℕ) {c : ℕ} → holding_in es unit number ≡ Count c
-    → holding_in (after es l) unit number ≡ Count c
+after_stays : (l es : List Entry) (unit number : ℕ) {c : ℕ} → holding_in es unit number ≡ Some c
+    → holding_in (after es l) unit number ≡ Some c
 unfolding after
 after_stays [] es unit number h = h
 after_stays (e ∷ l) es unit number h = after_stays l (entries_then es e) unit number (then_stays es e unit number h)
 
 -- an accepted entry is held, with its count
-pub taken_held : (es : List Entry) (e : Entry) → Taken es e → held_by (entries_then es e) e ≡ Count e.count
+pub taken_held : (es : List Entry) (e : Entry) → Taken es e → held_by (entries_then es e) e ≡ Some e.count
 taken_held es e (again h) = ap (λ (x : List Entry). held_by x e) (then_again es e h) ∙ h
 taken_held es e (fresh h l) = ap (λ (x : List Entry). held_by x e) (then_fresh es e h l) ∙ holding_new es e h
 
 -- one of the entries that are accepted of a single one is that one, and it is accepted
-one_taken : (es : List Entry) (e x : Entry) (t : Tallied) → tally_of es e ≡ t → Among x (if_taken t e)
+one_taken : (es : List Entry) (e x : Entry) (t : Result Tallied Refusal) → tally_of es e ≡ t → Among x (if_taken t e)
     → (x ≡ e) × (number_of (tally_of es e) ≡ 0)
-one_taken es e x Entered q m = (Memᴰ.eq_of_singleton m, ap number_of q)
-one_taken es e x AlreadyHeld q m = (Memᴰ.eq_of_singleton m, ap number_of q)
-one_taken es e x OtherCount q m = absurd (Memᴰ.not-nil m)
-one_taken es e x Full q m = absurd (Memᴰ.not-nil m)
+one_taken es e x (Ok tallied) q m = (Memᴰ.eq_of_singleton m, ap number_of q)
+one_taken es e x (Err OtherCount) q m = absurd (Memᴰ.not-nil m)
+one_taken es e x (Err Full) q m = absurd (Memᴰ.not-nil m)
 
-pub accepted_held : (l es : List Entry) (x : Entry) → Among x (accepts es l) → held_by (after es l) x ≡ Count x.count
+pub accepted_held : (l es : List Entry) (x : Entry) → Among x (accepts es l) → held_by (after es l) x ≡ Some x.count
 unfolding after accepts
 accepted_held [] es x m = absurd (Memᴰ.not-nil m)
 accepted_held (e ∷ l) es x m =
@@ -160,7 +159,7 @@ accepted_held (e ∷ l) es x m =
     (λ w.
     let k = one_taken es e x (tally_of es e) refl w in
     after_stays l (entries_then es e) x.unit x.number
-    (subst (λ (y : Entry). held_by (entries_then es e) y ≡ Count y.count) (sym k.0)
+    (subst (λ (y : Entry). held_by (entries_then es e) y ≡ Some y.count) (sym k.0)
     (taken_held es e (taken es e k.1))))
     (λ w. accepted_held l (entries_then es e) x w) (Memᴰ.append_cases (if_taken (tally_of es e) e) m)
 
@@ -169,7 +168,7 @@ accepted_held (e ∷ l) es x m =
 pub record NoTwice (d : Entry) (es : List Entry) : Type 0 where
   pub apart : (i j : ℕ) → i < j → j < length es → has_key (get_or es i d).unit (get_or es i d).number (get_or es j d) ≡ false
 
-module _ (d : Entry) (es : List Entry) (e : Entry) (p : NoTwice d es) (h : held_by es e ≡ Nothing) where
+module _ (d : Entry) (es : List Entry) (e : Entry) (p : NoTwice d es) (h : held_by es e ≡ None) where
   behind_apart : (i j : ℕ) → i < j → j < length (es ++ (e ∷ [])) → Dec (j ≡ length es)
       → has_key (get_or (es ++ (e ∷ [])) i d).unit (get_or (es ++ (e ∷ [])) i d).number (get_or (es ++ (e ∷ [])) j d) ≡ false
   behind_apart i j l m (yes q) =
@@ -192,11 +191,11 @@ module _ (d : Entry) (es : List Entry) (e : Entry) (p : NoTwice d es) (h : held_
 then_twice : (d : Entry) (es : List Entry) (e : Entry) → NoTwice d es → NoTwice d (entries_then es e)
 then_twice d es e p = by (tally_of es e) refl (ways es e)
   where
-    by : (t : Tallied) → tally_of es e ≡ t → Way es e t → NoTwice d (entries_then es e)
-    by AlreadyHeld q (held h) = subst (NoTwice d) (sym (entries_are es e q)) p
-    by OtherCount q (other c h n) = subst (NoTwice d) (sym (entries_are es e q)) p
-    by Full q (full h m) = subst (NoTwice d) (sym (entries_are es e q)) p
-    by Entered q (new h m) = subst (NoTwice d) (sym (entries_are es e q)) (behind_twice d es e p h)
+    by : (t : Result Tallied Refusal) → tally_of es e ≡ t → Way es e t → NoTwice d (entries_then es e)
+    by (Ok AlreadyHeld) q (held h) = subst (NoTwice d) (sym (entries_are es e q)) p
+    by (Err OtherCount) q (other c h n) = subst (NoTwice d) (sym (entries_are es e q)) p
+    by (Err Full) q (full h m) = subst (NoTwice d) (sym (entries_are es e q)) p
+    by (Ok Entered) q (new h m) = subst (NoTwice d) (sym (entries_are es e q)) (behind_twice d es e p h)
 
 pub after_twice : (d : Entry) (l es : List Entry) → NoTwice d es → NoTwice d (after es l)
 unfolding after
@@ -235,17 +234,17 @@ one_entry : (es : List Entry) (x y : Entry) → has_key x.unit x.number y ≡ tr
     → Taken (entries_then es x) y → x ≡ y
 one_entry es x y k p q = by q
   where
-    is_held : held_by (entries_then es x) y ≡ Count x.count
+    is_held : held_by (entries_then es x) y ≡ Some x.count
     is_held = sym (holding_same (entries_then es x) x y k) ∙ taken_held es x p
 
     by : Taken (entries_then es x) y → x ≡ y
     by (again h) =
-        let e : Count x.count ≡ Count y.count = sym is_held ∙ h in
+        let e : Some x.count ≡ Some y.count = sym is_held ∙ h in
         let c : x.count ≡ y.count = cc in
         let u = key_of _ _ y k in
         entry_is x (sym u.0) (sym u.1) c
     by (fresh h l) =
-        let e : Count x.count ≡ Nothing = sym is_held ∙ h in
+        let e : Some x.count ≡ None = sym is_held ∙ h in
         let z : ◌≡◌ {A = ℕ} 0 1 = cc in absurd (omega arith)
 
 -- what entering in another order comes to
@@ -279,17 +278,17 @@ reordered (further r s) es a =
 module _ (e : Entry) (l p es : List Entry) (f : es ≡ distinct p) (agree : Agreeing (p ++ (e ∷ l)))
     (fit : Fitting (p ++ (e ∷ l))) where
   -- what is held of p is held of its first entries
-  held_in : {h : Holding} → held_by es e ≡ h → held_by p e ≡ h
+  held_in : {h : Option ℕ} → held_by es e ≡ h → held_by p e ≡ h
   held_in q = sym (distinct_holds p e.unit e.number) ∙ sym (ap (λ (x : List Entry). held_by x e) f) ∙ q
 
-  agreed : (c : ℕ) → held_by es e ≡ Count c → held_by es e ≡ Count e.count
+  agreed : (c : ℕ) → held_by es e ≡ Some c → held_by es e ≡ Some e.count
   agreed c q =
       q
-      ∙ ap Count
+      ∙ ap Some
       (agree _ e (Memᴰ.append_left (e ∷ l) (held_among p e.unit e.number c (held_in q)))
       (Memᴰ.append_right p (Memᴰ.head refl)) refl refl)
 
-  fitted : held_by es e ≡ Nothing → length es < most
+  fitted : held_by es e ≡ None → length es < most
   fitted q =
       let g = ap length (distinct_new p l e (held_in q)) in
       let k = length-append (distinct p) (e ∷ beyond p (without e (distinct l))) in
@@ -301,17 +300,17 @@ unfolding AllTaken
 all_taken [] p es f agree fit = tt
 all_taken (e ∷ l) p es f agree fit = by (held_by es e) refl (all_taken l (p ++ (e ∷ [])))
   where
-    by : (h : Holding) → held_by es e ≡ h
+    by : (h : Option ℕ) → held_by es e ≡ h
         → ((fs : List Entry) → fs ≡ distinct (p ++ (e ∷ [])) → Agreeing ((p ++ (e ∷ [])) ++ l)
         → Fitting ((p ++ (e ∷ [])) ++ l) → AllTaken fs l)
         → Taken es e × AllTaken (entries_then es e) l
-    by (Count c) q rest =
+    by (Some c) q rest =
         let h = agreed e l p es f agree fit c q in (
           again h,
           rest (entries_then es e) (then_again es e h ∙ held_first p e f h) (subst Agreeing (sym (one_more p l e)) agree)
               (subst Fitting (sym (one_more p l e)) fit),
         )
-    by Nothing q rest =
+    by None q rest =
         let m = fitted e l p es f agree fit q in (
           fresh q m,
           rest (entries_then es e) (then_fresh es e q m ∙ new_first p e f q)

@@ -14,8 +14,7 @@ use Rattle.laws.proofs.Chosen.{either}
 use Rattle.tally.specs.Tally.{has_key, holding_in, total_in}
 use Rattle.tally.specs.History.{without, distinct}
 use Rattle.tally.specs.declared.Entry.{Entry}
-use Rattle.tally.specs.declared.Holding.{Holding}
-use Rattle.tally.specs.declared.Holding.TheVariants.{Count, Nothing}
+use Rattle.std.specs.Prelude.{Option, Some, None}
 
 -- a key is an entry's where both of its numbers are
 pub key_of : (unit number : ℕ) (e : Entry) → has_key unit number e ≡ true → (e.unit ≡ unit) × (e.number ≡ number)
@@ -47,13 +46,13 @@ key_turned x y =
 -- ---- what is held
 
 -- what is held in one list, and else in another
-abbrev pub or_else : Holding → Holding → Holding
-or_else (Count c) h = Count c
-or_else Nothing h = h
+abbrev pub or_else : Option ℕ → Option ℕ → Option ℕ
+or_else (Some c) h = Some c
+or_else None h = h
 
-pub or_nothing : (h : Holding) → or_else h Nothing ≡ h
-or_nothing (Count c) = refl
-or_nothing Nothing = refl
+pub or_nothing : (h : Option ℕ) → or_else h None ≡ h
+or_nothing (Some c) = refl
+or_nothing None = refl
 
 pub holding_append : (es fs : List Entry) (unit number : ℕ)
     → holding_in (es ++ fs) unit number ≡ or_else (holding_in es unit number) (holding_in fs unit number)
@@ -64,7 +63,7 @@ holding_append (e ∷ es) fs unit number =
 
 -- what one entry holds under a key
 pub alone : (e : Entry) (unit number : ℕ) (t : Bool) → has_key unit number e ≡ t
-    → holding_in (e ∷ []) unit number ≡ cond t (Count e.count) Nothing
+    → holding_in (e ∷ []) unit number ≡ cond t (Some e.count) None
 unfolding holding_in
 alone e unit number t h = rw h
 
@@ -77,17 +76,17 @@ holding_other es e unit number h =
     ∙ or_nothing (holding_in es unit number)
 
 -- and one of a key that was not held holds it
-pub holding_new : (es : List Entry) (e : Entry) → holding_in es e.unit e.number ≡ Nothing
-    → holding_in (es ++ (e ∷ [])) e.unit e.number ≡ Count e.count
+pub holding_new : (es : List Entry) (e : Entry) → holding_in es e.unit e.number ≡ None
+    → holding_in (es ++ (e ∷ [])) e.unit e.number ≡ Some e.count
 holding_new es e h =
     holding_append es (e ∷ []) e.unit e.number
     ∙ ap₂ or_else h (alone e e.unit e.number true (own_key e))
 
 -- what was held before stays held
-pub holding_stays : (es fs : List Entry) (unit number : ℕ) {c : ℕ} → holding_in es unit number ≡ Count c
-    → holding_in (es ++ fs) unit number ≡ Count c
+pub holding_stays : (es fs : List Entry) (unit number : ℕ) {c : ℕ} → holding_in es unit number ≡ Some c
+    → holding_in (es ++ fs) unit number ≡ Some c
 holding_stays es fs unit number h =
-    holding_append es fs unit number ∙ ap (λ (x : Holding). or_else x (holding_in fs unit number)) h
+    holding_append es fs unit number ∙ ap (λ (x : Option ℕ). or_else x (holding_in fs unit number)) h
 
 -- the entries of one key hold the same
 pub holding_same : (es : List Entry) (x y : Entry) → has_key x.unit x.number y ≡ true
@@ -100,7 +99,7 @@ pub entry_is : (e : Entry) {unit number count : ℕ} → e.unit ≡ unit → e.n
 entry_is e p q r = λ i. record { unit = p i; number = q i; count = r i }
 
 -- where a key is held, an entry has it, with that count
-pub held_among : (es : List Entry) (unit number c : ℕ) → holding_in es unit number ≡ Count c
+pub held_among : (es : List Entry) (unit number c : ℕ) → holding_in es unit number ≡ Some c
     → Memᴰ record { unit = unit; number = number; count = c } es
 unfolding holding_in
 held_among [] unit number c h = let z : ◌≡◌ {A = ℕ} 0 1 = cc in absurd (omega arith)
@@ -108,20 +107,20 @@ held_among (e ∷ es) unit number c h =
     either (has_key unit number e)
     (λ t.
     let k = key_of unit number e t in
-    let g : Count e.count ≡ Count c = sym (rw t) ∙ h in
+    let g : Some e.count ≡ Some c = sym (rw t) ∙ h in
     let m : e.count ≡ c = cc in
     Memᴰ.head (sym (entry_is e k.0 k.1 m)))
     (λ f. Memᴰ.tail (held_among es unit number c (sym (rw f) ∙ h)))
 
 -- where it is not, none has it
-pub none_at : (d : Entry) (es : List Entry) (unit number : ℕ) → holding_in es unit number ≡ Nothing
+pub none_at : (d : Entry) (es : List Entry) (unit number : ℕ) → holding_in es unit number ≡ None
     → (i : ℕ) → i < length es
     → has_key unit number (get_or es i d) ≡ false
 unfolding holding_in
 none_at d [] unit number h i l = absurd (omega arith)
 none_at d (e ∷ es) unit number h i l =
     either (has_key unit number e)
-    (λ t. let g : Count e.count ≡ Nothing = sym (rw t) ∙ h in let z : ◌≡◌ {A = ℕ} 0 1 = cc in absurd (omega arith))
+    (λ t. let g : Some e.count ≡ None = sym (rw t) ∙ h in let z : ◌≡◌ {A = ℕ} 0 1 = cc in absurd (omega arith))
     (λ f. first_or_later f i l (λ k m. none_at d es unit number (sym (rw f) ∙ h) k m))
   where
     first_or_later : has_key unit number e ≡ false → (i : ℕ) → i < length (e ∷ es)
@@ -140,9 +139,9 @@ total_append (e ∷ es) fs unit = let h = total_append es fs unit in omega (arit
 -- ---- the first entries of each key
 
 -- an entry before others, if its key is new
-abbrev pub if_new : Holding → Entry → List Entry → List Entry
-if_new (Count c) x xs = xs
-if_new Nothing x xs = x ∷ xs
+abbrev pub if_new : Option ℕ → Entry → List Entry → List Entry
+if_new (Some c) x xs = xs
+if_new None x xs = x ∷ xs
 
 -- those whose key is not held in a list
 unfoldable pub beyond : List Entry → List Entry → List Entry
@@ -155,15 +154,15 @@ without_step : (e x : Entry) (xs : List Entry) {t : Bool} → has_key e.unit e.n
 unfolding without
 without_step e x xs h = ap (λ (b : Bool). cond b (without e xs) (x ∷ without e xs)) h
 
-beyond_step : (p : List Entry) (x : Entry) (xs : List Entry) {h : Holding} → holding_in p x.unit x.number ≡ h
+beyond_step : (p : List Entry) (x : Entry) (xs : List Entry) {h : Option ℕ} → holding_in p x.unit x.number ≡ h
     → beyond p (x ∷ xs) ≡ if_new h x (beyond p xs)
 unfolding beyond
-beyond_step p x xs e = ap (λ (h : Holding). if_new h x (beyond p xs)) e
+beyond_step p x xs e = ap (λ (h : Option ℕ). if_new h x (beyond p xs)) e
 
 holding_step : (e : Entry) (es : List Entry) (unit number : ℕ) {t : Bool} → has_key unit number e ≡ t
-    → holding_in (e ∷ es) unit number ≡ cond t (Count e.count) (holding_in es unit number)
+    → holding_in (e ∷ es) unit number ≡ cond t (Some e.count) (holding_in es unit number)
 unfolding holding_in
-holding_step e es unit number h = ap (λ (b : Bool). cond b (Count e.count) (holding_in es unit number)) h
+holding_step e es unit number h = ap (λ (b : Bool). cond b (Some e.count) (holding_in es unit number)) h
 
 without_append : (e : Entry) (xs ys : List Entry) → without e (xs ++ ys) ≡ without e xs ++ without e ys
 unfolding without
@@ -180,15 +179,15 @@ beyond_none (x ∷ xs) = ap (λ (l : List Entry). x ∷ l) (beyond_none xs)
 -- leaving out the key of one entry more
 module _ (a : Entry) (p : List Entry) (x : Entry) (xs : List Entry)
     (rest : without a (beyond p xs) ≡ beyond (a ∷ p) xs) where
-  same_key : has_key a.unit a.number x ≡ true → (h : Holding) → holding_in p x.unit x.number ≡ h
+  same_key : has_key a.unit a.number x ≡ true → (h : Option ℕ) → holding_in p x.unit x.number ≡ h
       → without a (beyond p (x ∷ xs)) ≡ beyond (a ∷ p) xs
-  same_key t (Count c) q = ap (without a) (beyond_step p x xs q) ∙ rest
-  same_key t Nothing q = ap (without a) (beyond_step p x xs q) ∙ without_step a x (beyond p xs) t ∙ rest
+  same_key t (Some c) q = ap (without a) (beyond_step p x xs q) ∙ rest
+  same_key t None q = ap (without a) (beyond_step p x xs q) ∙ without_step a x (beyond p xs) t ∙ rest
 
-  other_key : has_key a.unit a.number x ≡ false → (h : Holding) → holding_in p x.unit x.number ≡ h
+  other_key : has_key a.unit a.number x ≡ false → (h : Option ℕ) → holding_in p x.unit x.number ≡ h
       → without a (beyond p (x ∷ xs)) ≡ if_new h x (beyond (a ∷ p) xs)
-  other_key f (Count c) q = ap (without a) (beyond_step p x xs q) ∙ rest
-  other_key f Nothing q =
+  other_key f (Some c) q = ap (without a) (beyond_step p x xs q) ∙ rest
+  other_key f None q =
       ap (without a) (beyond_step p x xs q) ∙ without_step a x (beyond p xs) f ∙ ap (λ (l : List Entry). x ∷ l) rest
 
 beyond_more : (a : Entry) (p xs : List Entry) → without a (beyond p xs) ≡ beyond (a ∷ p) xs
@@ -229,7 +228,7 @@ without_holds e (x ∷ xs) unit number h =
     (λ f.
     ap (λ (l : List Entry). holding_in l unit number) (without_step e x xs f)
     ∙ holding_step x (without e xs) unit number refl
-    ∙ ap (cond (has_key unit number x) (Count x.count)) (without_holds e xs unit number h)
+    ∙ ap (cond (has_key unit number x) (Some x.count)) (without_holds e xs unit number h)
     ∙ sym (holding_step x xs unit number refl))
 
 pub distinct_holds : (es : List Entry) (unit number : ℕ)
@@ -246,7 +245,7 @@ distinct_holds (e ∷ es) unit number =
     ∙ sym (holding_step e es unit number f))
 
 -- one entry more, of a key that was held or of a new one
-pub distinct_held : (p : List Entry) (e : Entry) {c : ℕ} → holding_in p e.unit e.number ≡ Count c
+pub distinct_held : (p : List Entry) (e : Entry) {c : ℕ} → holding_in p e.unit e.number ≡ Some c
     → distinct (p ++ (e ∷ [])) ≡ distinct p
 unfolding distinct without beyond
 distinct_held p e h =
@@ -254,7 +253,7 @@ distinct_held p e h =
     ∙ ap (λ (l : List Entry). distinct p ++ l) (beyond_step p e [] h)
     ∙ append-nil (distinct p)
 
-pub distinct_new : (p q : List Entry) (e : Entry) → holding_in p e.unit e.number ≡ Nothing
+pub distinct_new : (p q : List Entry) (e : Entry) → holding_in p e.unit e.number ≡ None
     → distinct (p ++ (e ∷ q)) ≡ distinct p ++ (e ∷ beyond p (without e (distinct q)))
 unfolding distinct
 distinct_new p q e h =

@@ -13,10 +13,13 @@ use Rattle.tally.specs.Tally.{most, entries_by, entries_then}
 use Rattle.tally.specs.Book.{words, entries_in, entry_at, entries_of, laid_in, tallied, book_by, book_then}
 use Rattle.tally.specs.History.{IsBook}
 use Rattle.tally.specs.declared.Entry.{Entry}
-use Rattle.tally.specs.declared.Tallied.{Tallied}
-use Rattle.tally.specs.declared.Tallied.TheVariants.{Entered, AlreadyHeld, OtherCount, Full}
 use Rattle.tally.proofs.Rows.{entries_told, entries_length, row_holds}
 use Rattle.tally.proofs.Ways.{Way, held, other, full, new, ways, entries_are}
+use Rattle.std.specs.Prelude.{Result, Ok, Err}
+use Rattle.tally.specs.declared.Tallied.{Tallied}
+use Rattle.tally.specs.declared.Tallied.TheVariants.{Entered, AlreadyHeld}
+use Rattle.tally.specs.declared.Refusal.{Refusal}
+use Rattle.tally.specs.declared.Refusal.TheVariants.{OtherCount, Full}
 
 -- the entries are so many rows
 all_rows : (b : List ℕ) {n : ℕ} → entries_in b ≡ n → entries_of b ≡ tabulate (entry_at b) n
@@ -115,18 +118,17 @@ pub then_long : (b : List ℕ) (e : Entry) → IsBook b → IsBook (book_then b 
 unfolding book_then
 then_long b e book = by (tallied b e)
   where
-    by : (t : Tallied) → IsBook (book_by t b e)
-    by Entered = simp length-set book
-    by AlreadyHeld = book
-    by OtherCount = book
-    by Full = book
+    by : (t : Result Tallied Refusal) → IsBook (book_by t b e)
+    by (Ok Entered) = simp length-set book
+    by (Ok AlreadyHeld) = book
+    by (Err refusal) = book
 
 pub then_entries : (b : List ℕ) (e : Entry) → IsBook b → entries_of (book_then b e) ≡ entries_then (entries_of b) e
 unfolding book_then
 then_entries b e book = by (tallied b e) (ways (entries_of b) e) ∙ sym (entries_are (entries_of b) e refl)
   where
-    by : (t : Tallied) → Way (entries_of b) e t → entries_of (book_by t b e) ≡ entries_by t (entries_of b) e
-    by AlreadyHeld (held p) = refl
-    by OtherCount (other c p n) = refl
-    by Full (full p l) = refl
-    by Entered (new p l) = laid_behind b e book (omega (arith, entries_length b))
+    by : (t : Result Tallied Refusal) → Way (entries_of b) e t → entries_of (book_by t b e) ≡ entries_by t (entries_of b) e
+    by (Ok AlreadyHeld) (held p) = refl
+    by (Err OtherCount) (other c p n) = refl
+    by (Err Full) (full p l) = refl
+    by (Ok Entered) (new p l) = laid_behind b e book (omega (arith, entries_length b))

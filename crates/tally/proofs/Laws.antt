@@ -8,14 +8,13 @@ use native.Mathlib.Omega.{arith}
 use lib.Dec.{eqb}
 use lib.ListN.{length, get_or, set, length-set}
 use lib.Seq.{get_or-set_same}
+use Rattle.std.specs.Prelude.{Ok, Err}
 use Rattle.laws.specs.Tabulate.{tabulate_from, tabulate}
 use Rattle.blocks.specs.Walk.{walked_of}
 use Rattle.blocks.specs.Frames.{if_sound}
 use Rattle.blocks.specs.Refusals as blocks
 use Rattle.blocks.specs.declared.Cause.{Cause}
-use Rattle.blocks.specs.declared.Cause.TheVariants as Cause
-use Rattle.blocks.specs.declared.Ending.{Ending}
-use Rattle.blocks.specs.declared.Ending.TheVariants as Ending
+use Rattle.blocks.specs.Walk.{Ending}
 use Rattle.tally.specs.Tally.{most, has_key, holding_in, total_in, tally_of, entries_then, number_of}
 use Rattle.tally.specs.Book.{entries_in, entry_at, entries_of, emptied, tallied, book_by, book_then}
 use Rattle.tally.specs.Entering.{recording_entry, entering_by, entering_of, book_after_recording, refusal_of, tells_of}
@@ -26,11 +25,6 @@ use Rattle.tally.specs.Promised.{held_for, TallyRefuses, RecordingFirst, TallySt
 use Rattle.tally.specs.Promised.{NoKeyTwice, TotalOfFirsts, HeldIfAccepted, SameAnswers, EitherOrder, AnyOrder}
 use Rattle.tally.specs.Promised.{again, SameAgain}
 use Rattle.tally.specs.declared.Entry.{Entry}
-use Rattle.tally.specs.declared.Holding.TheVariants.{Count, Nothing}
-use Rattle.tally.specs.declared.Tallied.{Tallied}
-use Rattle.tally.specs.declared.Tallied.TheVariants.{Entered, AlreadyHeld, OtherCount, Full}
-use Rattle.tally.specs.declared.Entering.{Entering}
-use Rattle.tally.specs.declared.Entering.TheVariants as Entering
 use Rattle.tally.proofs.Rows.{entries_fit, entries_told, entries_length, row_holds}
 use Rattle.tally.proofs.Keys.{held_among, distinct_holds}
 use Rattle.tally.proofs.Ways.{Way, held, other, full, new, answered, ways, fresh, taken, taken_answers, Same}
@@ -38,6 +32,14 @@ use Rattle.tally.proofs.Laid.{then_long, then_entries}
 use Rattle.tally.proofs.Ways.{exchanged}
 use Rattle.tally.proofs.Histories.{after, accepts, after_append, accepts_append, firsts, taken_held}
 use Rattle.tally.proofs.Histories.{accepted_held, NoTwice, after_twice, all_accepts, reordered, all_taken}
+use Rattle.std.specs.Prelude.{Some, None, Result, Ok, Err}
+use Rattle.tally.specs.declared.Tallied.{Tallied}
+use Rattle.tally.specs.declared.Tallied.TheVariants.{Entered, AlreadyHeld}
+use Rattle.tally.specs.declared.Refusal.{Refusal}
+use Rattle.tally.specs.declared.Refusal.TheVariants.{OtherCount, Full}
+use Rattle.tally.specs.declared.RecordingRefusal.{RecordingRefusal}
+use Rattle.tally.specs.declared.RecordingRefusal.TheVariants.{Unsound}
+use Rattle.tally.specs.Entering.{of_entry}
 
 -- ---- one call
 
@@ -46,47 +48,56 @@ module _ (b : List ℕ) (e : Entry) where
   long : length (entries_of b) ≡ entries_in b
   long = entries_length b
 
-  from_held : (t : Tallied) → Way (entries_of b) e t → t ≡ AlreadyHeld → held_for b e ≡ Count e.count
-  from_held AlreadyHeld (held h) q = h
-  from_held OtherCount (other c h n) q = let z : ◌≡◌ {A = ℕ} 0 1 = cc in absurd (omega arith)
-  from_held Full (full h l) q = let z : ◌≡◌ {A = ℕ} 0 1 = cc in absurd (omega arith)
-  from_held Entered (new h l) q = let z : ◌≡◌ {A = ℕ} 0 1 = cc in absurd (omega arith)
+  from_held : (t : Result Tallied Refusal) → Way (entries_of b) e t → t ≡ Ok AlreadyHeld → held_for b e ≡ Some e.count
+  from_held (Ok AlreadyHeld) (held h) q = h
+  from_held (Err OtherCount) (other c h n) q = let z : ◌≡◌ {A = ℕ} 0 1 = cc in absurd (omega arith)
+  from_held (Err Full) (full h l) q = let z : ◌≡◌ {A = ℕ} 0 1 = cc in absurd (omega arith)
+  from_held (Ok Entered) (new h l) q = let z : ◌≡◌ {A = ℕ} 0 1 = cc in absurd (omega arith)
 
-  from_other : (t : Tallied) → Way (entries_of b) e t → number_of t ≡ 13
-      → (count : ℕ) × (held_for b e ≡ Count count) × (count ≡ e.count → ⊥)
-  from_other AlreadyHeld (held h) q = absurd (omega arith)
-  from_other OtherCount (other c h n) q = (c, h, n)
-  from_other Full (full h l) q = absurd (omega arith)
-  from_other Entered (new h l) q = absurd (omega arith)
+  from_other : (t : Result Tallied Refusal) → Way (entries_of b) e t → number_of t ≡ 13
+      → (count : ℕ) × (held_for b e ≡ Some count) × (count ≡ e.count → ⊥)
+  from_other (Ok AlreadyHeld) (held h) q = absurd (omega arith)
+  from_other (Err OtherCount) (other c h n) q = (c, h, n)
+  from_other (Err Full) (full h l) q = absurd (omega arith)
+  from_other (Ok Entered) (new h l) q = absurd (omega arith)
 
-  from_full : (t : Tallied) → Way (entries_of b) e t → number_of t ≡ 14 → (held_for b e ≡ Nothing) × (entries_in b ≡ most)
-  from_full AlreadyHeld (held h) q = absurd (omega arith)
-  from_full OtherCount (other c h n) q = absurd (omega arith)
-  from_full Full (full h l) q = (h, omega (arith, long, entries_fit b))
-  from_full Entered (new h l) q = absurd (omega arith)
+  from_full : (t : Result Tallied Refusal) → Way (entries_of b) e t → number_of t ≡ 14 → (held_for b e ≡ None) × (entries_in b ≡ most)
+  from_full (Ok AlreadyHeld) (held h) q = absurd (omega arith)
+  from_full (Err OtherCount) (other c h n) q = absurd (omega arith)
+  from_full (Err Full) (full h l) q = (h, omega (arith, long, entries_fit b))
+  from_full (Ok Entered) (new h l) q = absurd (omega arith)
 
-  from_entered : (t : Tallied) → Way (entries_of b) e t → t ≡ Entered → (held_for b e ≡ Nothing) × (entries_in b < most)
-  from_entered AlreadyHeld (held h) q = let z : ◌≡◌ {A = ℕ} 0 1 = cc in absurd (omega arith)
-  from_entered OtherCount (other c h n) q = let z : ◌≡◌ {A = ℕ} 0 1 = cc in absurd (omega arith)
-  from_entered Full (full h l) q = let z : ◌≡◌ {A = ℕ} 0 1 = cc in absurd (omega arith)
-  from_entered Entered (new h l) q = (h, omega (arith, long))
+  from_entered : (t : Result Tallied Refusal) → Way (entries_of b) e t → t ≡ Ok Entered → (held_for b e ≡ None) × (entries_in b < most)
+  from_entered (Ok AlreadyHeld) (held h) q = let z : ◌≡◌ {A = ℕ} 0 1 = cc in absurd (omega arith)
+  from_entered (Err OtherCount) (other c h n) q = let z : ◌≡◌ {A = ℕ} 0 1 = cc in absurd (omega arith)
+  from_entered (Err Full) (full h l) q = let z : ◌≡◌ {A = ℕ} 0 1 = cc in absurd (omega arith)
+  from_entered (Ok Entered) (new h l) q = (h, omega (arith, long))
 
 pub tally_refuses : TallyRefuses
 unfolding TallyRefuses
 tally_refuses b e =
     let w = ways (entries_of b) e in
     let n = entries_length b in (
-      (from_held b e (tallied b e) w, λ h. answered (entries_of b) e AlreadyHeld (held h)),
+      (from_held b e (tallied b e) w, λ h. answered (entries_of b) e (Ok AlreadyHeld) (held h)),
       (
         from_other b e (tallied b e) w,
-        λ h. ap number_of (answered (entries_of b) e OtherCount (other h.0 h.1 h.2)),
+        λ h. ap number_of (answered (entries_of b) e (Err OtherCount) (other h.0 h.1 h.2)),
       ),
       (
         from_full b e (tallied b e) w,
-        λ h. ap number_of (answered (entries_of b) e Full (full h.0 (omega (arith, n, h.1)))),
+        λ h. ap number_of (answered (entries_of b) e (Err Full) (full h.0 (omega (arith, n, h.1)))),
       ),
-      (from_entered b e (tallied b e) w, λ h. answered (entries_of b) e Entered (new h.0 (omega (arith, n, h.1)))),
+      (from_entered b e (tallied b e) w, λ h. answered (entries_of b) e (Ok Entered) (new h.0 (omega (arith, n, h.1)))),
     )
+
+-- an answer about an entry, as one about its recording, has its number and tells nothing
+pub same_number : (t : Result Tallied Refusal) → refusal_of (of_entry t) ≡ number_of t
+same_number (Ok tallied) = refl
+same_number (Err refusal) = refl
+
+tells_nothing : (t : Result Tallied Refusal) → tells_of (of_entry t) ≡ []
+tells_nothing (Ok tallied) = refl
+tells_nothing (Err refusal) = refl
 
 -- no cause of a refusal has the number 0
 cause_numbered : (cause : Cause) → blocks.refusal_of cause ≡ 0 → ⊥
@@ -109,35 +120,37 @@ recording_first b s count = by (walked_of s).ending
         → (refusal_of (entering_by ending b (recording_entry s count)) ≡ blocks.ending_refusal ending)
         × (tells_of (entering_by ending b (recording_entry s count)) ≡ blocks.ending_tells ending))
         × (blocks.ending_refusal ending ≡ 0
-        → (entering_by ending b (recording_entry s count) ≡ Entering.Done (tallied b (recording_entry s count)))
+        → (entering_by ending b (recording_entry s count) ≡ of_entry (tallied b (recording_entry s count)))
         × (tells_of (entering_by ending b (recording_entry s count)) ≡ []))
-    by Ending.Sound = (λ h. absurd (h refl), λ h. (refl, refl))
-    by (Ending.Refused cause) = (λ h. (refl, refl), λ h. absurd (cause_numbered cause h))
+    by (Ok _) = (λ h. absurd (h refl), λ h. (refl, tells_nothing (tallied b (recording_entry s count))))
+    by (Err cause) = (λ h. (refl, refl), λ h. absurd (cause_numbered cause h))
 
 -- a call is refused only by an answer that leaves the book
-tally_leaves : (t : Tallied) (b : List ℕ) (e : Entry) → (t ≡ Entered → ⊥) → book_by t b e ≡ b
-tally_leaves Entered b e h = absurd (h refl)
-tally_leaves AlreadyHeld b e h = refl
-tally_leaves OtherCount b e h = refl
-tally_leaves Full b e h = refl
+tally_leaves : (t : Result Tallied Refusal) (b : List ℕ) (e : Entry) → (t ≡ Ok Entered → ⊥) → book_by t b e ≡ b
+tally_leaves (Ok Entered) b e h = absurd (h refl)
+tally_leaves (Ok AlreadyHeld) b e h = refl
+tally_leaves (Err refusal) b e h = refl
 
-then_leaves : (b : List ℕ) (e : Entry) → (tallied b e ≡ Entered → ⊥) → book_then b e ≡ b
+then_leaves : (b : List ℕ) (e : Entry) → (tallied b e ≡ Ok Entered → ⊥) → book_then b e ≡ b
 unfolding book_then
 then_leaves b e h = tally_leaves (tallied b e) b e h
 
 -- so of an entry, by what its answer is not
-refused_leaves : (b : List ℕ) (e : Entry) → (number_of (tallied b e) ≡ 0 → ⊥) → book_then b e ≡ b
-refused_leaves b e h = then_leaves b e (λ q. h (ap number_of q))
+refused_leaves : (b : List ℕ) (e : Entry) → (refusal_of (of_entry (tallied b e)) ≡ 0 → ⊥) → book_then b e ≡ b
+refused_leaves b e h = then_leaves b e (λ q. h (ap (λ (t : Result Tallied Refusal). refusal_of (of_entry t)) q))
 
-held_leaves : (b : List ℕ) (e : Entry) → Entering.Done (tallied b e) ≡ Entering.Done AlreadyHeld → book_then b e ≡ b
+held_leaves : (b : List ℕ) (e : Entry) → of_entry (tallied b e) ≡ Ok AlreadyHeld → book_then b e ≡ b
 held_leaves b e h =
-    then_leaves b e (λ q.
-    let w : AlreadyHeld ≡ Entered = cc in let z : ◌≡◌ {A = ℕ} 0 1 = cc in absurd (omega arith))
+    then_leaves b e (λ q. not_both (tallied b e) h q)
+  where
+    not_both : (t : Result Tallied Refusal) → of_entry t ≡ Ok AlreadyHeld → t ≡ Ok Entered → ⊥
+    not_both (Ok tallied) p q = let z : ◌≡◌ {A = ℕ} 0 1 = cc in omega arith
+    not_both (Err refusal) p q = let z : ◌≡◌ {A = ℕ} 0 1 = cc in omega arith
 
 -- and of a call: a recording that is sound is entered, and one that is not leaves the book
-abbrev Leaves : List ℕ → Entering → List ℕ → Type 0
+abbrev Leaves : List ℕ → Result Tallied RecordingRefusal → List ℕ → Type 0
 Leaves b answer later =
-    ((refusal_of answer ≡ 0 → ⊥) → later ≡ b) × (answer ≡ Entering.Done AlreadyHeld → later ≡ b)
+    ((refusal_of answer ≡ 0 → ⊥) → later ≡ b) × (answer ≡ Ok AlreadyHeld → later ≡ b)
 
 pub tally_stands : TallyStands
 unfolding TallyStands entering_of book_after_recording
@@ -146,8 +159,8 @@ tally_stands b (recording s count) = by (walked_of s).ending
   where
     by : (ending : Ending) → Leaves b (entering_by ending b (recording_entry s count))
         (if_sound ending (book_then b (recording_entry s count)) b)
-    by Ending.Sound = (refused_leaves b (recording_entry s count), held_leaves b (recording_entry s count))
-    by (Ending.Refused cause) = (λ h. refl, λ h. refl)
+    by (Ok _) = (refused_leaves b (recording_entry s count), held_leaves b (recording_entry s count))
+    by (Err cause) = (λ h. refl, λ h. refl)
 
 -- no row adds more than 32 bits hold
 share_fits : (t : Bool) (count : ℕ) → count < 4294967296 → cond t count 0 ≤ 4294967295
@@ -177,17 +190,18 @@ alone_after : (es : List Entry) (e : Entry) → entries_then es e ≡ after es (
 unfolding after
 alone_after es e = refl
 
-alone_accepts : (es : List Entry) (e : Entry) → if_accepted (Entering.Done (tally_of es e)) (e ∷ []) ≡ accepts es (e ∷ [])
+alone_accepts : (es : List Entry) (e : Entry) → if_accepted (of_entry (tally_of es e)) (e ∷ []) ≡ accepts es (e ∷ [])
 unfolding accepts
-alone_accepts es e = sym (append-nil _)
+alone_accepts es e =
+    ap (λ (n : ℕ). cond (eqb n 0) (e ∷ []) []) (same_number (tally_of es e)) ∙ sym (append-nil _)
 
 -- a call: it stays a book, its entries are those after what the call would enter, and of that it is accepted what is
-pub record Stepped (b : List ℕ) (later : List ℕ) (answer : Entering) (es : List Entry) : Type 0 where
+pub record Stepped (b : List ℕ) (later : List ℕ) (answer : Result Tallied RecordingRefusal) (es : List Entry) : Type 0 where
   pub book : IsBook later
   pub entries : entries_of later ≡ after (entries_of b) es
   pub accepted : if_accepted answer es ≡ accepts (entries_of b) es
 
-entered_step : (b : List ℕ) (e : Entry) → IsBook b → Stepped b (book_then b e) (Entering.Done (tallied b e)) (e ∷ [])
+entered_step : (b : List ℕ) (e : Entry) → IsBook b → Stepped b (book_then b e) (of_entry (tallied b e)) (e ∷ [])
 entered_step b e book =
     record {
       book = then_long b e book;
@@ -195,7 +209,7 @@ entered_step b e book =
       accepted = alone_accepts (entries_of b) e;
     }
 
-refused_step : (b : List ℕ) (cause : Cause) → IsBook b → Stepped b b (Entering.Refused cause) []
+refused_step : (b : List ℕ) (cause : Cause) → IsBook b → Stepped b b (Err (Unsound cause)) []
 unfolding after accepts
 refused_step b cause book =
     record { book = book; entries = refl; accepted = none_left (eqb (blocks.refusal_of cause) 0) }
@@ -213,8 +227,8 @@ call_step b (recording s count) book = by (walked_of s).ending
         → Stepped b (if_sound ending (book_then b (recording_entry s count)) b)
         (entering_by ending b (recording_entry s count))
         (if_sound ending (recording_entry s count ∷ []) [])
-    by Ending.Sound = entered_step b (recording_entry s count) book
-    by (Ending.Refused cause) = refused_step b cause book
+    by (Ok _) = entered_step b (recording_entry s count) book
+    by (Err cause) = refused_step b cause book
 
 -- a history in the same way
 pub record Run (b : List ℕ) (h : List Call) : Type 0 where
@@ -266,7 +280,7 @@ module _ (b : List ℕ) (h : List Call) (e : EmptyBook b) where
       ∙ ap distinct (sym ran.accepted)
 
   ran_accepted : (x : Entry) → Among x (accepted_in b h)
-      → holding_in (entries_of (book_after_all b h)) x.unit x.number ≡ Count x.count
+      → holding_in (entries_of (book_after_all b h)) x.unit x.number ≡ Some x.count
   ran_accepted x m =
       ap (λ (es : List Entry). holding_in es x.unit x.number) ran.entries
       ∙ accepted_held (entries_for h) (entries_of b) x (subst (Among x) ran.accepted m)
@@ -354,8 +368,8 @@ few (enter e) = one e
 few (recording s count) = by (walked_of s).ending
   where
     by : (ending : Ending) → Few (if_sound ending (recording_entry s count ∷ []) [])
-    by Ending.Sound = one (recording_entry s count)
-    by (Ending.Refused cause) = no_entry
+    by (Ok _) = one (recording_entry s count)
+    by (Err cause) = no_entry
 
 few_swapped : {k j : List Entry} → Few k → Few j → (l : List Entry) → Reordered (k ++ (j ++ l)) (j ++ (k ++ l))
 few_swapped no_entry no_entry l = as_it_is l
@@ -385,35 +399,29 @@ any_order b h g e r agree fit =
 -- ---- the same again
 
 -- a second time: what was entered is already held, and else nothing has moved
-abbrev once_more : Tallied → Tallied
-once_more Entered = AlreadyHeld
-once_more AlreadyHeld = AlreadyHeld
-once_more OtherCount = OtherCount
-once_more Full = Full
+abbrev once_more : Result Tallied Refusal → Result Tallied Refusal
+once_more (Ok tallied) = Ok AlreadyHeld
+once_more (Err refusal) = Err refusal
 
-never_new : (t : Tallied) → once_more t ≡ Entered → ⊥
-never_new Entered q = let z : ◌≡◌ {A = ℕ} 0 1 = cc in omega arith
-never_new AlreadyHeld q = let z : ◌≡◌ {A = ℕ} 0 1 = cc in omega arith
-never_new OtherCount q = let z : ◌≡◌ {A = ℕ} 0 1 = cc in omega arith
-never_new Full q = let z : ◌≡◌ {A = ℕ} 0 1 = cc in omega arith
+never_new : (t : Result Tallied Refusal) → once_more t ≡ Ok Entered → ⊥
+never_new (Ok tallied) q = let z : ◌≡◌ {A = ℕ} 0 1 = cc in omega arith
+never_new (Err refusal) q = let z : ◌≡◌ {A = ℕ} 0 1 = cc in omega arith
 
-again_done : (t : Tallied) → Entering.Done (once_more t) ≡ again (Entering.Done t)
-again_done Entered = refl
-again_done AlreadyHeld = refl
-again_done OtherCount = refl
-again_done Full = refl
+again_done : (t : Result Tallied Refusal) → of_entry (once_more t) ≡ again (of_entry t)
+again_done (Ok tallied) = refl
+again_done (Err refusal) = refl
 
 module _ (b : List ℕ) (e : Entry) (book : IsBook b) where
-  moved_by : {t : Tallied} → tallied b e ≡ t → book_then b e ≡ book_by t b e
+  moved_by : {t : Result Tallied Refusal} → tallied b e ≡ t → book_then b e ≡ book_by t b e
   unfolding book_then
-  moved_by q = ap (λ (t : Tallied). book_by t b e) q
+  moved_by q = ap (λ (t : Result Tallied Refusal). book_by t b e) q
 
-  second_answer : (t : Tallied) → tallied b e ≡ t → Way (entries_of b) e t → tallied (book_then b e) e ≡ once_more t
-  second_answer AlreadyHeld q (held h) = ap (λ (x : List ℕ). tallied x e) (moved_by q) ∙ q
-  second_answer OtherCount q (other c h n) = ap (λ (x : List ℕ). tallied x e) (moved_by q) ∙ q
-  second_answer Full q (full h l) = ap (λ (x : List ℕ). tallied x e) (moved_by q) ∙ q
-  second_answer Entered q (new h l) =
-      answered (entries_of (book_then b e)) e AlreadyHeld
+  second_answer : (t : Result Tallied Refusal) → tallied b e ≡ t → Way (entries_of b) e t → tallied (book_then b e) e ≡ once_more t
+  second_answer (Ok AlreadyHeld) q (held h) = ap (λ (x : List ℕ). tallied x e) (moved_by q) ∙ q
+  second_answer (Err OtherCount) q (other c h n) = ap (λ (x : List ℕ). tallied x e) (moved_by q) ∙ q
+  second_answer (Err Full) q (full h l) = ap (λ (x : List ℕ). tallied x e) (moved_by q) ∙ q
+  second_answer (Ok Entered) q (new h l) =
+      answered (entries_of (book_then b e)) e (Ok AlreadyHeld)
       (held
       (ap (λ (es : List Entry). holding_in es e.unit e.number) (then_entries b e book)
       ∙ taken_held (entries_of b) e (fresh h l)))
@@ -421,22 +429,21 @@ module _ (b : List ℕ) (e : Entry) (book : IsBook b) where
   second : tallied (book_then b e) e ≡ once_more (tallied b e)
   second = second_answer (tallied b e) refl (ways (entries_of b) e)
 
-  pub entry_again : (Entering.Done (tallied (book_then b e) e) ≡ again (Entering.Done (tallied b e)))
+  pub entry_again : (of_entry (tallied (book_then b e) e) ≡ again (of_entry (tallied b e)))
       × (book_then (book_then b e) e ≡ book_then b e)
   entry_again = (
-    ap Entering.Done second ∙ again_done (tallied b e),
+    ap of_entry second ∙ again_done (tallied b e),
     then_leaves (book_then b e) e (λ q. never_new (tallied b e) (sym second ∙ q)),
   )
 
 -- so an entry that was accepted is already held
-accepted_more : (t : Tallied) → number_of t ≡ 0 → once_more t ≡ AlreadyHeld
-accepted_more Entered h = refl
-accepted_more AlreadyHeld h = refl
-accepted_more OtherCount h = absurd (omega arith)
-accepted_more Full h = absurd (omega arith)
+accepted_more : (t : Result Tallied Refusal) → number_of t ≡ 0 → once_more t ≡ Ok AlreadyHeld
+accepted_more (Ok tallied) h = refl
+accepted_more (Err OtherCount) h = absurd (omega arith)
+accepted_more (Err Full) h = absurd (omega arith)
 
 pub accepted_again : (b : List ℕ) (e : Entry) → IsBook b → number_of (tallied b e) ≡ 0
-    → tallied (book_then b e) e ≡ AlreadyHeld
+    → tallied (book_then b e) e ≡ Ok AlreadyHeld
 accepted_again b e book h = second b e book ∙ accepted_more (tallied b e) h
 
 pub same_again : SameAgain
@@ -450,5 +457,5 @@ same_again b (recording s count) book = by (walked_of s).ending
         × (if_sound ending (book_then (if_sound ending (book_then b (recording_entry s count)) b) (recording_entry s count))
         (if_sound ending (book_then b (recording_entry s count)) b)
         ≡ if_sound ending (book_then b (recording_entry s count)) b)
-    by Ending.Sound = entry_again b (recording_entry s count) book
-    by (Ending.Refused cause) = (refl, refl)
+    by (Ok _) = entry_again b (recording_entry s count) book
+    by (Err cause) = (refl, refl)

@@ -3,30 +3,31 @@
 use mathlib.Core.Path.{◌≡◌, ◌∙◌, sym, refl, ap, ap₂}
 use mathlib.Core.Bool.{Bool, true, false, cond}
 use mathlib.Core.List.{List, [], ◌∷◌}
-use Prim.Native.Nat.{ℕ, suc, ◌+◌, ◌-◌, ◌*◌, ◌<◌, ◌≤◌}
+use Prim.Native.Nat.{ℕ, suc, ◌+◌, ◌-◌, ◌*◌, ◌<◌, ◌≤◌, min}
 use native.Mathlib.Omega.{arith}
 use native.Mathlib.Numerals.{add-one}
 use native.Mathlib.Decide.{dec_le}
 use borrow.Author.Tests.{eq-eqb, ne_eqb, le-leb, lt-leb, lt-ltb, le-ltb}
 use lib.Dec.{eqb, ltb}
 use lib.ListN.{length, get_or}
+use Rattle.std.specs.Prelude.{Ok, Err}
 use Rattle.laws.specs.Table.{both}
 use Rattle.laws.specs.Tabulate.{tabulate_from}
 use Rattle.laws.proofs.Tabulate.{length_tabulate, get_d_tabulate}
 use Rattle.blocks.specs.Walk.{walked_of}
 use Rattle.blocks.specs.declared.Cause.{Cause}
-use Rattle.blocks.specs.declared.Ending.TheVariants as Ending
 use Rattle.blocks.specs.declared.Walked.{Walked}
 use Rattle.tally.specs.Tally.{has_key, holding_in, share, total_in, tally_new, tally_by, tally_of}
 use Rattle.tally.specs.Book.{entries_in, entry_at, entries_of, laid_in, tallied, book_by, book_then}
 use Rattle.tally.specs.Steps.{place_of, tally_or_full, appended}
-use Rattle.tally.specs.Entering.{entry_of, recording_entry, entering_of, book_after_recording}
+use Rattle.tally.specs.Entering.{entry_of, of_entry, recording_entry, entering_of, book_after_recording}
 use Rattle.tally.specs.declared.Entry.{Entry}
-use Rattle.tally.specs.declared.Entering.TheVariants.{Done, Refused}
-use Rattle.tally.specs.declared.Holding.{Holding}
-use Rattle.tally.specs.declared.Holding.TheVariants.{Count, Nothing}
+use Rattle.std.specs.Prelude.{Option, Some, None, Result, Ok, Err}
 use Rattle.tally.specs.declared.Tallied.{Tallied}
-use Rattle.tally.specs.declared.Tallied.TheVariants.{Entered, AlreadyHeld, OtherCount, Full}
+use Rattle.tally.specs.declared.Tallied.TheVariants.{Entered, AlreadyHeld}
+use Rattle.tally.specs.declared.Refusal.{Refusal}
+use Rattle.tally.specs.declared.Refusal.TheVariants.{OtherCount, Full}
+use Rattle.tally.specs.declared.RecordingRefusal.TheVariants.{Unsound}
 
 -- the entries from row i on, up to a last one
 abbrev pub rest : List ℕ → ℕ → ℕ → List Entry
@@ -49,23 +50,25 @@ unfolding tabulate_from
 rest_none b end i h =
     let e : end - i ≡ 0 = omega arith in ap (λ (n : ℕ). tabulate_from i (entry_at b) n) e
 
--- how many entries there are, by the two ways of `entries`
+-- how many entries there are: what the first word tells, or 4,096 where that is more
 pub entries_told : (b : List ℕ) → get_or b 0 0 ≤ 4096 → get_or b 0 0 ≡ entries_in b
 unfolding entries_in
 entries_told b h = rw (le-leb (get_or b 0 0) 4096 h)
 
-pub entries_most : (b : List ℕ) → 4096 < get_or b 0 0 → 4096 ≡ entries_in b
+entries_most : (b : List ℕ) → 4096 < get_or b 0 0 → 4096 ≡ entries_in b
 unfolding entries_in
 entries_most b h = rw (lt-leb (get_or b 0 0) 4096 h)
 
--- there are never more than 4,096
-pub entries_fit : (b : List ℕ) → entries_in b ≤ 4096
-unfolding entries_in
-entries_fit b = go (dec_le (get_or b 0 0) 4096)
+pub entries_least : (b : List ℕ) {told : ℕ} → told ≡ min (get_or b 0 0) 4096 → told ≡ entries_in b
+entries_least b {told} e = go (dec_le (get_or b 0 0) 4096)
   where
-    go : Dec (get_or b 0 0 ≤ 4096) → entries_in b ≤ 4096
+    go : Dec (get_or b 0 0 ≤ 4096) → told ≡ entries_in b
     go (yes h) = omega (arith, entries_told b h)
     go (no h) = omega (arith, entries_most b (omega arith))
+
+-- there are never more than 4,096
+pub entries_fit : (b : List ℕ) → entries_in b ≤ 4096
+entries_fit b = omega (arith, entries_least b refl)
 
 pub told_fits : (b : List ℕ) {told : ℕ} → told ≡ entries_in b → told ≤ 4096
 told_fits b e = omega (arith, entries_fit b)
@@ -117,37 +120,37 @@ module _ {b : List ℕ} {end unit number i : ℕ} (a : Seeking b end unit number
       record { short = a.short; passed = omega arith; left = omega (arith, f) }
 
   -- all rows were looked at
-  pub sought_none : end ≤ i → i ≡ place_of (entries_of b) unit number
+  pub sought_none : end ≤ i → end ≡ place_of (entries_of b) unit number
   unfolding place_of
   sought_none h =
       let f = ap (λ (es : List Entry). i + place_of es unit number) (rest_none b end i h) in
-      omega (arith, f, a.left)
+      omega (arith, f, a.left, a.passed)
 
 -- what is held, by the place of a key
 place_held : (d : Entry) (es : List Entry) (unit number : ℕ) → place_of es unit number < length es
-    → holding_in es unit number ≡ Count (get_or es (place_of es unit number) d).count
+    → holding_in es unit number ≡ Some (get_or es (place_of es unit number) d).count
 unfolding place_of holding_in
 place_held d [] unit number h = absurd (omega arith)
 place_held d (e ∷ es) unit number h = by (has_key unit number e) refl (place_held d es unit number)
   where
     by : (t : Bool) → has_key unit number e ≡ t
         → (place_of es unit number < length es
-        → holding_in es unit number ≡ Count (get_or es (place_of es unit number) d).count)
-        → holding_in (e ∷ es) unit number ≡ Count (get_or (e ∷ es) (place_of (e ∷ es) unit number) d).count
+        → holding_in es unit number ≡ Some (get_or es (place_of es unit number) d).count)
+        → holding_in (e ∷ es) unit number ≡ Some (get_or (e ∷ es) (place_of (e ∷ es) unit number) d).count
     by true q rest = rw q
     by false q rest =
         let g : place_of (e ∷ es) unit number ≡ suc (place_of es unit number) = rw q in
         rw q (rest (omega (arith, g)))
 
 place_none : (es : List Entry) (unit number : ℕ) → length es ≤ place_of es unit number
-    → holding_in es unit number ≡ Nothing
+    → holding_in es unit number ≡ None
 unfolding place_of holding_in
 place_none [] unit number h = refl
 place_none (e ∷ es) unit number h = by (has_key unit number e) refl (place_none es unit number)
   where
     by : (t : Bool) → has_key unit number e ≡ t
-        → (length es ≤ place_of es unit number → holding_in es unit number ≡ Nothing)
-        → holding_in (e ∷ es) unit number ≡ Nothing
+        → (length es ≤ place_of es unit number → holding_in es unit number ≡ None)
+        → holding_in (e ∷ es) unit number ≡ None
     by true q rest =
         let g : place_of (e ∷ es) unit number ≡ 0 = rw q in
         absurd (omega (arith, g))
@@ -174,16 +177,16 @@ row_holds b k d h = get_d_tabulate (entry_at b) d (entries_in b) k h
 
 module _ (b : List ℕ) (unit number : ℕ) {row end : ℕ} (found : row ≡ place_of (entries_of b) unit number)
     (told : end ≡ entries_in b) where
-  pub row_held : row < end → Count (get_or b (8193 + row) 0) ≡ holding_in (entries_of b) unit number
+  pub row_held : row < end → Some (get_or b (8193 + row) 0) ≡ holding_in (entries_of b) unit number
   row_held h =
       let n = entries_length b in
       let l : row < entries_in b = omega arith in
       sym
       (place_held (entry_at b row) (entries_of b) unit number (omega (arith, n))
-      ∙ ap (λ (k : ℕ). Count (get_or (entries_of b) k (entry_at b row)).count) (sym found)
-      ∙ ap (λ (e : Entry). Count e.count) (row_holds b row (entry_at b row) l))
+      ∙ ap (λ (k : ℕ). Some (get_or (entries_of b) k (entry_at b row)).count) (sym found)
+      ∙ ap (λ (e : Entry). Some e.count) (row_holds b row (entry_at b row) l))
 
-  pub row_none : end ≤ row → Nothing ≡ holding_in (entries_of b) unit number
+  pub row_none : end ≤ row → None ≡ holding_in (entries_of b) unit number
   row_none h = let n = entries_length b in sym (place_none (entries_of b) unit number (omega (arith, n)))
 
   pub row_after : end ≤ row → row ≡ entries_in b
@@ -216,15 +219,19 @@ module _ {b : List ℕ} {end unit sum i : ℕ} (a : Summing b end unit sum i) wh
       omega (arith, f, e, a.left)
 
   -- its count, where it is the unit's; which fits 32 bits
-  pub summed_own : i < end → get_or b (4097 + i) 0 ≡ unit → {x more : ℕ} → x ≡ get_or b (8193 + i) 0 → x ≤ 4294967295
-      → more ≡ sum + x → Summing b end unit more (i + 1)
-  summed_own h u {x} {more} e w m =
+  pub summed_own : i < end → get_or b (4097 + i) 0 ≡ unit → get_or b (8193 + i) 0 ≤ 4294967295
+      → {more : ℕ} → more ≡ sum + get_or b (8193 + i) 0 → Summing b end unit more (i + 1)
+  summed_own h u w {more} m =
       record {
         short = a.short;
         passed = omega arith;
         small = omega (arith, a.small);
         left =
-            omega (arith, m, adds h x (ap (λ (y : Bool). cond y (get_or b (8193 + i) 0) 0) (eq-eqb _ _ u) ∙ sym e));
+            omega (
+              arith,
+              m,
+              adds h (get_or b (8193 + i) 0) (ap (λ (y : Bool). cond y (get_or b (8193 + i) 0) 0) (eq-eqb _ _ u)),
+            );
       }
 
   -- nothing, where it is another's
@@ -247,13 +254,13 @@ module _ {b : List ℕ} {end unit sum i : ℕ} (a : Summing b end unit sum i) wh
 
 -- `append` lays an entry in the row after those there are, where that is below 4,096
 pub no_room : (b : List ℕ) (e : Entry) {row : ℕ} → row ≡ entries_in b → 4096 ≤ row
-    → (Full ≡ tally_or_full b) × (b ≡ appended b e)
+    → ((Err Full) ≡ tally_or_full b) × (b ≡ appended b e)
 no_room b e {row} told h =
     let f : ltb (entries_in b) 4096 ≡ false = le-ltb (entries_in b) 4096 (omega arith) in
     (rw f, rw f)
 
 pub room : (b : List ℕ) (e : Entry) {row : ℕ} → row ≡ entries_in b → row < 4096
-    → (Entered ≡ tally_or_full b) × (laid_in b row e ≡ appended b e)
+    → ((Ok Entered) ≡ tally_or_full b) × (laid_in b row e ≡ appended b e)
 room b e {row} told h =
     let f : ltb (entries_in b) 4096 ≡ true = lt-ltb (entries_in b) 4096 (omega arith) in
     (rw f, rw (f, told))
@@ -261,50 +268,50 @@ room b e {row} told h =
 -- `enter` goes by what is held: the same count, another one, nothing
 module _ (b : List ℕ) (e : Entry) where
   -- what is answered, and the book then
-  abbrev Answers : Tallied → List ℕ → Type 0
+  abbrev Answers : Result Tallied Refusal → List ℕ → Type 0
   Answers t after = (t ≡ tallied b e) × (after ≡ book_then b e)
 
-  by : (h : Holding) → h ≡ holding_in (entries_of b) e.unit e.number → (t : Tallied)
+  by : (h : Option ℕ) → h ≡ holding_in (entries_of b) e.unit e.number → (t : Result Tallied Refusal)
       → tally_by h (length (entries_of b)) e.count ≡ t → Answers t (book_by t b e)
   unfolding tally_of book_then
   by h asked t f =
       let g : tally_of (entries_of b) e ≡ t =
-      ap (λ (x : Holding). tally_by x (length (entries_of b)) e.count) (sym asked) ∙ f
+      ap (λ (x : Option ℕ). tally_by x (length (entries_of b)) e.count) (sym asked) ∙ f
       in
-      (sym g, ap (λ (x : Tallied). book_by x b e) (sym g))
+      (sym g, ap (λ (x : Result Tallied Refusal). book_by x b e) (sym g))
 
-  pub held_same : {held : ℕ} → Count held ≡ holding_in (entries_of b) e.unit e.number → held ≡ e.count
-      → Answers AlreadyHeld b
+  pub held_same : {held : ℕ} → Some held ≡ holding_in (entries_of b) e.unit e.number → held ≡ e.count
+      → Answers (Ok AlreadyHeld) b
   held_same {held} c f =
-      by (Count held) c AlreadyHeld (ap (λ (x : Bool). cond x AlreadyHeld OtherCount) (eq-eqb held e.count f))
+      by (Some held) c (Ok AlreadyHeld) (ap (λ (x : Bool). cond x (Ok AlreadyHeld) (Err OtherCount)) (eq-eqb held e.count f))
 
-  pub held_other : {held : ℕ} → Count held ≡ holding_in (entries_of b) e.unit e.number → (held ≡ e.count → ⊥)
-      → Answers OtherCount b
+  pub held_other : {held : ℕ} → Some held ≡ holding_in (entries_of b) e.unit e.number → (held ≡ e.count → ⊥)
+      → Answers (Err OtherCount) b
   held_other {held} c f =
-      by (Count held) c OtherCount (ap (λ (x : Bool). cond x AlreadyHeld OtherCount) (ne_eqb held e.count f))
+      by (Some held) c (Err OtherCount) (ap (λ (x : Bool). cond x (Ok AlreadyHeld) (Err OtherCount)) (ne_eqb held e.count f))
 
-  pub held_none : {t : Tallied} {after : List ℕ} → Nothing ≡ holding_in (entries_of b) e.unit e.number
+  pub held_none : {t : Result Tallied Refusal} {after : List ℕ} → None ≡ holding_in (entries_of b) e.unit e.number
       → t ≡ tally_or_full b → after ≡ appended b e → Answers t after
   held_none {t} {after} c f g =
-      let w = by Nothing c (tally_or_full b) (ap tally_new (entries_length b)) in
+      let w = by None c (tally_or_full b) (ap tally_new (entries_length b)) in
       (f ∙ w.0, g ∙ w.1)
 
 -- `enter_recording` goes by how the walk ends
 module _ (b s : List ℕ) (count : ℕ) {w : Walked} (walked : w ≡ walked_of s) where
-  pub recording_refused : {cause : Cause} → w.ending ≡ Ending.Refused cause
-      → (Refused cause ≡ entering_of b s count) × (b ≡ book_after_recording b s count)
+  pub recording_refused : {cause : Cause} → w.ending ≡ Err cause
+      → (Err (Unsound cause) ≡ entering_of b s count) × (b ≡ book_after_recording b s count)
   unfolding entering_of book_after_recording
   recording_refused {cause} f =
-      let g : (walked_of s).ending ≡ Ending.Refused cause = sym (ap (λ (x : Walked). x.ending) walked) ∙ f in
+      let g : (walked_of s).ending ≡ Err cause = sym (ap (λ (x : Walked). x.ending) walked) ∙ f in
       (rw g, rw g)
 
-  pub recording_sound : w.ending ≡ Ending.Sound → {e : Entry} {t : Tallied} {after : List ℕ}
+  pub recording_sound : w.ending ≡ Ok tt → {e : Entry} {t : Result Tallied Refusal} {after : List ℕ}
       → e ≡ entry_of w.walk.heading count → t ≡ tallied b e → after ≡ book_then b e
-      → (Done t ≡ entering_of b s count) × (after ≡ book_after_recording b s count)
+      → (of_entry t ≡ entering_of b s count) × (after ≡ book_after_recording b s count)
   unfolding entering_of book_after_recording recording_entry
   recording_sound f {e} {t} {after} h p q =
-      let g : (walked_of s).ending ≡ Ending.Sound = sym (ap (λ (x : Walked). x.ending) walked) ∙ f in
+      let g : (walked_of s).ending ≡ Ok tt = sym (ap (λ (x : Walked). x.ending) walked) ∙ f in
       let k : e ≡ entry_of (walked_of s).walk.heading count =
       h ∙ ap (λ (x : Walked). entry_of x.walk.heading count) walked
       in
-      (rw g (ap Done (p ∙ ap (tallied b) k)), rw g (q ∙ ap (book_then b) k))
+      (rw g (ap of_entry (p ∙ ap (tallied b) k)), rw g (q ∙ ap (book_then b) k))

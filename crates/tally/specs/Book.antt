@@ -4,8 +4,10 @@ use Rattle.std.specs.Prelude.{cond, List, ℕ, ◌+◌, leb, get_or, set}
 use Rattle.laws.specs.Tabulate.{tabulate}
 use Rattle.tally.specs.Tally.{most, tally_of}
 use Rattle.tally.specs.declared.Entry.{Entry}
+use Rattle.std.specs.Prelude.{Result, Ok, Err}
 use Rattle.tally.specs.declared.Tallied.{Tallied}
-use Rattle.tally.specs.declared.Tallied.TheVariants.{Entered, AlreadyHeld, OtherCount, Full}
+use Rattle.tally.specs.declared.Tallied.TheVariants.{Entered, AlreadyHeld}
+use Rattle.tally.specs.declared.Refusal.{Refusal}
 
 abbrev pub words : ℕ
 words = 12289
@@ -31,14 +33,13 @@ laid_in b row e =
     set (set (set (set b (1 + row) e.number) (4097 + row) e.unit) (8193 + row) e.count) 0 (row + 1)
 
 -- what entering answers, and the book then: a new entry in the row after those there are, and else every word as it was
-abbrev pub tallied : List ℕ → Entry → Tallied
+abbrev pub tallied : List ℕ → Entry → Result Tallied Refusal
 tallied b e = tally_of (entries_of b) e
 
-abbrev pub book_by : Tallied → List ℕ → Entry → List ℕ
-book_by Entered b e = laid_in b (entries_in b) e
-book_by AlreadyHeld b e = b
-book_by OtherCount b e = b
-book_by Full b e = b
+abbrev pub book_by : Result Tallied Refusal → List ℕ → Entry → List ℕ
+book_by (Ok Entered) b e = laid_in b (entries_in b) e
+book_by (Ok AlreadyHeld) b e = b
+book_by (Err refusal) b e = b
 
 unfoldable pub book_then : List ℕ → Entry → List ℕ
 book_then b e = book_by (tallied b e) b e

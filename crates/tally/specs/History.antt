@@ -8,8 +8,10 @@ use Rattle.tally.specs.Tally.{most, has_key}
 use Rattle.tally.specs.Book.{words, tallied, book_then}
 use Rattle.tally.specs.Entering.{recording_entry, entering_of, book_after_recording, refusal_of}
 use Rattle.tally.specs.declared.Entry.{Entry}
-use Rattle.tally.specs.declared.Entering.{Entering}
-use Rattle.tally.specs.declared.Entering.TheVariants.{Done}
+use Rattle.std.specs.Prelude.{Result}
+use Rattle.tally.specs.declared.Tallied.{Tallied}
+use Rattle.tally.specs.declared.RecordingRefusal.{RecordingRefusal}
+use Rattle.tally.specs.Entering.{of_entry}
 
 -- what can be called: an entry is entered, or the bytes of a recording with the count that was spoken in it
 pub data Call : Type 0 where
@@ -17,8 +19,8 @@ pub data Call : Type 0 where
   recording : List ℕ → ℕ → Call
 
 -- what a call answers, and the book after it
-abbrev pub answer_of : List ℕ → Call → Entering
-answer_of b (enter e) = Done (tallied b e)
+abbrev pub answer_of : List ℕ → Call → Result Tallied RecordingRefusal
+answer_of b (enter e) = of_entry (tallied b e)
 answer_of b (recording s count) = entering_of b s count
 
 abbrev pub book_after : List ℕ → Call → List ℕ
@@ -40,7 +42,7 @@ entries_for [] = []
 entries_for (c ∷ h) = entry_in c ++ entries_for h
 
 -- the entries of the accepted calls of a history, in order: those that were not refused
-abbrev pub if_accepted : Entering → List Entry → List Entry
+abbrev pub if_accepted : Result Tallied RecordingRefusal → List Entry → List Entry
 if_accepted answer es = cond (eqb (refusal_of answer) 0) es []
 
 unfoldable pub accepted_in : List ℕ → List Call → List Entry

@@ -8,15 +8,14 @@ use Rattle.tally.specs.Entering.{entering_of, recording_entry, refusal_of, tells
 use Rattle.tally.specs.History.{Call, answer_of, book_after, book_after_all, entries_for, accepted_in, distinct, IsBook}
 use Rattle.tally.specs.History.{EmptyBook, Among, Agreeing, Fitting, Reordered}
 use Rattle.tally.specs.declared.Entry.{Entry}
-use Rattle.tally.specs.declared.Holding.{Holding}
-use Rattle.tally.specs.declared.Holding.TheVariants.{Count, Nothing}
-use Rattle.tally.specs.declared.Tallied.TheVariants.{Entered, AlreadyHeld, OtherCount, Full}
-use Rattle.tally.specs.declared.Entering.{Entering}
-use Rattle.tally.specs.declared.Entering.TheVariants as Entering
-use Rattle.tally.specs.declared.Entering.TheVariants.{Done}
+use Rattle.std.specs.Prelude.{Option, Some, None, Result, Ok, Err}
+use Rattle.tally.specs.declared.Tallied.{Tallied}
+use Rattle.tally.specs.declared.Tallied.TheVariants.{Entered, AlreadyHeld}
+use Rattle.tally.specs.declared.RecordingRefusal.{RecordingRefusal}
+use Rattle.tally.specs.Entering.{of_entry}
 
 -- what a book holds under the key of an entry
-abbrev pub held_for : List ℕ → Entry → Holding
+abbrev pub held_for : List ℕ → Entry → Option ℕ
 held_for b e = holding_in (entries_of b) e.unit e.number
 
 -- "The same entry again answers 'already held'", also when the book is full; "13 when the key is held with another
@@ -24,10 +23,10 @@ held_for b e = holding_in (entries_of b) e.unit e.number
 unfoldable pub TallyRefuses : Type 0
 TallyRefuses =
     (b : List ℕ) (e : Entry)
-    → ((tallied b e ≡ AlreadyHeld) ↔ (held_for b e ≡ Count e.count))
-    × ((number_of (tallied b e) ≡ 13) ↔ ((count : ℕ) × (held_for b e ≡ Count count) × (count ≡ e.count → ⊥)))
-    × ((number_of (tallied b e) ≡ 14) ↔ ((held_for b e ≡ Nothing) × (entries_in b ≡ most)))
-    × ((tallied b e ≡ Entered) ↔ ((held_for b e ≡ Nothing) × (entries_in b < most)))
+    → ((tallied b e ≡ Ok AlreadyHeld) ↔ (held_for b e ≡ Some e.count))
+    × ((number_of (tallied b e) ≡ 13) ↔ ((count : ℕ) × (held_for b e ≡ Some count) × (count ≡ e.count → ⊥)))
+    × ((number_of (tallied b e) ≡ 14) ↔ ((held_for b e ≡ None) × (entries_in b ≡ most)))
+    × ((tallied b e ≡ Ok Entered) ↔ ((held_for b e ≡ None) × (entries_in b < most)))
 
 -- a recording's own refusal comes first, by its number and with what it tells; a sound one is entered by what its head
 -- tells, and then nothing is told
@@ -38,7 +37,7 @@ RecordingFirst =
     → (refusal_of (entering_of b s count) ≡ walked_refusal (walked_of s))
     × (tells_of (entering_of b s count) ≡ walked_tells (walked_of s)))
     × (walked_refusal (walked_of s) ≡ 0
-    → (entering_of b s count ≡ Done (tallied b (recording_entry s count)))
+    → (entering_of b s count ≡ of_entry (tallied b (recording_entry s count)))
     × (tells_of (entering_of b s count) ≡ []))
 
 -- a refusal leaves every word of the book as it was, and so does "already held"
@@ -46,7 +45,7 @@ unfoldable pub TallyStands : Type 0
 TallyStands =
     (b : List ℕ) (c : Call)
     → ((refusal_of (answer_of b c) ≡ 0 → ⊥) → book_after b c ≡ b)
-    × (answer_of b c ≡ Done AlreadyHeld → book_after b c ≡ b)
+    × (answer_of b c ≡ Ok AlreadyHeld → book_after b c ≡ b)
 
 -- a book never holds more than 4,096 entries; a total then has no more than 44 bits
 unfoldable pub TotalFits : Type 0
@@ -82,7 +81,7 @@ HeldIfAccepted =
     (b : List ℕ) (h : List Call) → EmptyBook b → (unit number : ℕ)
     → (holding_in (entries_of (book_after_all b h)) unit number ≡ holding_in (accepted_in b h) unit number)
     × ((count : ℕ)
-    → (holding_in (entries_of (book_after_all b h)) unit number ≡ Count count)
+    → (holding_in (entries_of (book_after_all b h)) unit number ≡ Some count)
     ↔ Among record { unit = unit; number = number; count = count } (accepted_in b h))
 
 -- two books that answer all that can be asked alike
@@ -109,12 +108,9 @@ AnyOrder =
     × SameAnswers (book_after_all b h) (book_after_all b g)
 
 -- what the same call answers the second time
-abbrev pub again : Entering → Entering
-again (Done Entered) = Done AlreadyHeld
-again (Done AlreadyHeld) = Done AlreadyHeld
-again (Done OtherCount) = Done OtherCount
-again (Done Full) = Done Full
-again (Entering.Refused cause) = Entering.Refused cause
+abbrev pub again : Result Tallied RecordingRefusal → Result Tallied RecordingRefusal
+again (Ok tallied) = Ok AlreadyHeld
+again (Err refusal) = Err refusal
 
 -- the same call twice changes nothing the second time, the same recording among them; what was entered is already held
 unfoldable pub SameAgain : Type 0

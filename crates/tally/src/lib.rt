@@ -6,13 +6,23 @@
 #![tactic(auto)]
 
 ghost use Rattle.std.specs.Prelude.{◌≡◌, ◌≤◌};
-ghost use Rattle.tally.specs.Tally.{number_of, total_in};
+ghost use Rattle.tally.specs.Tally.{numbered, total_in};
 ghost use Rattle.tally.specs.Book.{entries_in, entries_of, emptied};
+ghost use Rattle.tally.specs.declared.RecordingRefusal.TheVariants.{Unsound, NotEntered};
 
 use blocks::Cause;
 
-// How many words a book has.
+// How many words a book has, and how many rows.
 pub const WORDS: usize = 12289;
+
+pub const ROWS: usize = 4096;
+
+// Where its columns begin.
+pub const NUMBERS: usize = 1;
+
+pub const UNITS: usize = 4097;
+
+pub const COUNTS: usize = 8193;
 
 // What is entered: the unit and the number of a recording, which are its key, and the count that was spoken.
 #[derive(Clone, Copy)]
@@ -22,40 +32,51 @@ pub struct Entry {
     pub count: u32,
 }
 
-// The count that is held under a key, or that the key is not held.
-#[derive(Clone, Copy)]
-pub enum Holding {
-    Count(u32),
-    Nothing,
-}
-
-// What entering comes to: entered, or already held with the same count; or refused, since the key is held with another
-// count, or since the book is full and the key is new.
-#[derive(Clone, Copy)]
+// What entering comes to where it is not refused: entered, or already held with the same count.
+#[derive(Clone, Copy, Debug, PartialEq, Eq)]
 pub enum Tallied {
     Entered,
     AlreadyHeld,
+}
+
+// Why entering is refused: the key is held with another count, or the book is full and the key is new.
+#[derive(Clone, Copy, Debug, PartialEq, Eq)]
+pub enum Refusal {
     OtherCount,
     Full,
 }
 
-// What entering a recording comes to: as entering, or why the recording is refused.
-#[derive(Clone, Copy)]
-pub enum Entering {
-    Done(Tallied),
-    Refused(Cause),
+// Why entering a recording is refused: the recording is, or else its entry.
+#[derive(Clone, Copy, Debug, PartialEq, Eq)]
+pub enum RecordingRefusal {
+    Unsound(Cause),
+    NotEntered(Refusal),
 }
 
-impl Tallied {
-    // The number of the refusal; 0 is none.
+impl From<Cause> for RecordingRefusal {
+    ghost from_gives = { λ cause given. given ≡ Unsound cause };
+
+    fn from(cause: Cause) -> RecordingRefusal {
+        RecordingRefusal::Unsound(cause)
+    }
+}
+
+impl From<Refusal> for RecordingRefusal {
+    ghost from_gives = { λ refusal given. given ≡ NotEntered refusal };
+
+    fn from(refusal: Refusal) -> RecordingRefusal {
+        RecordingRefusal::NotEntered(refusal)
+    }
+}
+
+impl Refusal {
+    // The number of the refusal.
     pub fn refusal_number(self) -> u32
-        ensures { result ≡ number_of self }
+        ensures { result ≡ numbered self }
     {
         match self {
-            Tallied::Entered => 0,
-            Tallied::AlreadyHeld => 0,
-            Tallied::OtherCount => 13,
-            Tallied::Full => 14,
+            Refusal::OtherCount => 13,
+            Refusal::Full => 14,
         }
     }
 }
@@ -71,11 +92,7 @@ pub fn clear(book: &mut [u32; WORDS])
 pub fn entries(book: &[u32; WORDS]) -> u32
     ensures { result ≡ entries_in book.now }
 {
-    let told = book[0];
-    if told <= 4096 {
-        return told;
-    }
-    4096
+    book[0].min(ROWS as u32)
 }
 
 // The total for a unit.
@@ -84,22 +101,10 @@ pub fn total(book: &[u32; WORDS], unit: u32) -> u64
 {
     let last = entries(book) as usize;
     let mut sum: u64 = 0;
-    let mut i = 0;
-    while i < last {
-        let owner_at = 4097 + i;
-        if book[owner_at] == unit {
-            let added_at = 8193 + i;
-            sum += wide(book[added_at]);
+    for row in 0..last {
+        if book[UNITS + row] == unit {
+            sum += u64::from(book[COUNTS + row]);
         }
-        i += 1;
     }
     sum
-}
-
-// A count as a wider number.
-fn wide(count: u32) -> u64
-    ensures value { result ≡ count }
-    ensures upper_bound { result ≤ 4294967295 }
-{
-    count as u64
 }

@@ -2,7 +2,7 @@
 -- Assumes nothing.
 use mathlib.Core.Path.{◌≡◌, ◌∙◌, sym, refl, ap, subst}
 use mathlib.Core.List.{List, [], ◌∷◌, ◌++◌}
-use Prim.Native.Nat.{ℕ, zero, suc, ◌+◌, ◌-◌, ◌*◌, ◌/◌, ◌%◌, ◌^◌, ◌<◌, ◌≤◌}
+use Prim.Native.Nat.{ℕ, zero, suc, ◌+◌, ◌-◌, ◌*◌, ◌/◌, ◌%◌, ◌^◌, ◌<◌, ◌≤◌, max}
 use native.Mathlib.Omega.{arith}
 use native.Mathlib.Nat.{pow-suc}
 use native.Mathlib.Decide.{dec_lt}
@@ -70,6 +70,11 @@ by_digits P one more n = go (suc n) n (omega arith)
 pub decimal_longer : (n : ℕ) → 10 ≤ n → length (decimal n) ≡ length (decimal (n / 10)) + 1
 decimal_longer n h = ap length (decimal_more n h) ∙ length-append (decimal (n / 10)) (digit (n % 10) ∷ [])
 
+-- a power of ten is not 0
+ten_some : (d : ℕ) → 1 ≤ 10 ^ d
+ten_some zero = omega arith
+ten_some (suc d) = omega (arith, pow-suc 10 d, ten_some d)
+
 -- a number has a digit
 pub decimal_some : (n : ℕ) → 1 ≤ length (decimal n)
 decimal_some = by_digits (λ n. 1 ≤ length (decimal n)) (λ n h. omega (arith, ap length (decimal_one n h)))
@@ -90,6 +95,32 @@ decimal_most = by_digits (λ n. (d : ℕ) → 1 ≤ d → n < 10 ^ d → length 
         let e : 10 ^ suc (suc d) ≡ 10 ^ suc d * 10 = pow-suc 10 (suc d) in
         let l : length (decimal (n / 10)) ≤ suc d = rest (suc d) (omega arith) (omega arith) in
         omega (arith, decimal_longer n h)
+
+-- and more than d, where it is not below that power
+pub decimal_least : (n d : ℕ) → 10 ^ d ≤ n → d < length (decimal n)
+decimal_least = by_digits (λ n. (d : ℕ) → 10 ^ d ≤ n → d < length (decimal n)) one more
+  where
+    one : (n : ℕ) → n < 10 → (d : ℕ) → 10 ^ d ≤ n → d < length (decimal n)
+    one n h zero a = omega (arith, decimal_some n)
+    one n h (suc d) a = absurd (omega (arith, pow-suc 10 d, ten_some d))
+
+    more : (n : ℕ) → 10 ≤ n → ((d : ℕ) → 10 ^ d ≤ n / 10 → d < length (decimal (n / 10)))
+        → (d : ℕ) → 10 ^ d ≤ n → d < length (decimal n)
+    more n h rest zero a = omega (arith, decimal_some n)
+    more n h rest (suc d) a =
+        let e : 10 ^ suc d ≡ 10 ^ d * 10 = pow-suc 10 d in
+        let l : d < length (decimal (n / 10)) = rest d (omega arith) in
+        omega (arith, decimal_longer n h)
+
+-- so the logarithm of a number, of 1 in the place of 0, tells how many digits it has
+pub decimal_long : (n k : ℕ) {m : ℕ} → m ≡ max n 1 → 10 ^ k ≤ m → m < 10 * 10 ^ k → k + 1 ≡ length (decimal n)
+decimal_long zero zero e a b = sym (ap length (decimal_one 0 (omega arith)))
+decimal_long zero (suc k) e a b = absurd (omega (arith, pow-suc 10 k, ten_some k))
+decimal_long (suc n) k e a b =
+    let p : 10 ^ suc k ≡ 10 ^ k * 10 = pow-suc 10 k in
+    let l : k < length (decimal (suc n)) = decimal_least (suc n) k (omega arith) in
+    let u : length (decimal (suc n)) ≤ suc k = decimal_most (suc n) (suc k) (omega arith) (omega arith) in
+    omega arith
 
 -- each of its bytes is that of a digit, 48 to 57
 abbrev pub IsDigit : ℕ → Type 0

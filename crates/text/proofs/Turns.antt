@@ -1,17 +1,18 @@
--- The loops of the functions here and of `decimals`: how each starts, a turn of it, and how it ends.
+-- What the functions here lay, and the loops of `decimals`: how each starts, a turn of it, and how it ends.
 -- Assumes nothing.
-use mathlib.Core.Path.{◌≡◌, ◌∙◌, sym, ap, subst}
-use mathlib.Core.List.{List, [], ◌∷◌}
-use Prim.Native.Nat.{ℕ, suc, ◌+◌, ◌-◌, ◌/◌, ◌%◌, ◌^◌, ◌<◌, ◌≤◌, min}
+use mathlib.Core.Path.{◌≡◌, ◌∙◌, sym, ap, ap₂, subst}
+use mathlib.Core.List.{List, [], ◌∷◌, ◌++◌}
+use Prim.Native.Nat.{ℕ, suc, ◌+◌, ◌-◌, ◌/◌, ◌%◌, ◌<◌, ◌≤◌, min}
 use native.Mathlib.Omega.{arith}
 use native.Mathlib.Decide.{dec_le}
-use native.Mathlib.Numerals.{add-one}
 use lib.ListN.{length, take, drop, get_or, set, drop_of_length-le}
-use lib.Seq.{take-suc, drop-cons, length-take-le}
+use lib.Seq.{drop-cons, length-take-le, take_all}
+use borrow.Rule.Slice.PartMut.{put_mid}
+use Rattle.std.proofs.lemmas.Slice.{put_mid-paste}
 use Rattle.text.specs.Decimal.{decimal, digit}
 use Rattle.text.specs.Laid.{laid, after}
-use Rattle.text.proofs.Laid.{length_laid, laid_none, laid_past, laid_one, laid_cons, laid_room, laid_then}
-use Rattle.text.proofs.Decimal.{decimal_one, decimal_some, decimal_longer, decimal_most, Left, left_all}
+use Rattle.text.proofs.Laid.{laid_none, laid_past, laid_one, laid_cons, laid_room}
+use Rattle.text.proofs.Decimal.{Left, left_all}
 use Rattle.text.proofs.Decimal.{left_digit, left_less}
 
 -- at a position past the end nothing is laid
@@ -22,68 +23,22 @@ past o at t h = (omega arith, sym (laid_past o at t h))
 pub byte : (o : List ℕ) (at b : ℕ) → at < length o → (at + 1 ≡ after o at (b ∷ [])) × (set o at b ≡ laid o at (b ∷ []))
 byte o at b h = (omega arith, laid_one o at b h)
 
--- of a word w as many bytes as there is room for, and of those the first i laid
-pub record Words (o : List ℕ) (at : ℕ) (w : List ℕ) (size i : ℕ) (l : List ℕ) : Type 0 where
-  pub starts : at < length o
-  pub most : size ≡ min (length w) (length o - at)
-  pub upto : i ≤ size
-  pub here : l ≡ laid o at (take i w)
-
--- at the start none
-pub word_none : (o : List ℕ) (at : ℕ) (w : List ℕ) (size : ℕ) → at < length o → size ≡ min (length w) (length o - at)
-    → Words o at w size 0 o
-word_none o at w size h e = record { starts = h; most = e; upto = omega arith; here = sym (laid_none o at) }
-
-module _ {o : List ℕ} {at : ℕ} {w : List ℕ} {size i : ℕ} {l : List ℕ} (p : Words o at w size i l) where
-  -- the buffer is as long as it was
-  pub word_length : length l ≡ length o
-  word_length = ap length p.here ∙ length_laid o at (take i w)
-
-  -- a turn lays one byte
-  pub word_more : i < size → Words o at w size (i + 1) (set l (at + i) (get_or w i 0))
-  word_more h =
-      let long : length (take i w) ≡ i = length-take-le i w (omega (arith, p.most)) in
-      let place : at + i ≡ after o at (take i w) = omega (arith, p.most, p.starts) in
-      let room : at + i < length (laid o at (take i w)) =
-      omega (arith, p.most, p.starts, length_laid o at (take i w)) in
-      record {
-        starts = p.starts;
-        most = p.most;
-        upto = omega arith;
-        here = ap (λ (s : List ℕ). set s (at + i) (get_or w i 0)) p.here
-            ∙ laid_one (laid o at (take i w)) (at + i) (get_or w i 0) room
-            ∙ ap (λ (k : ℕ). laid (laid o at (take i w)) k (get_or w i 0 ∷ [])) place
-            ∙ laid_then o at (take i w) (get_or w i 0 ∷ [])
-            ∙ ap (laid o at) (sym (take-suc w i 0 (omega (arith, p.most))))
-            ∙ ap (λ (k : ℕ). laid o at (take k w)) (sym (add-one i));
-      }
-
-  -- at the end the word is laid, as much of it as there is room for
-  pub word_all : size ≤ i → (at + size ≡ after o at w) × (l ≡ laid o at w)
-  word_all h = (omega (arith, p.most, p.starts), p.here ∙ laid_room o at w i (omega (arith, p.most)))
-
--- the digits counted so far and those of the rest are all, the first digit of the rest counted twice
-pub record Counted (n k rest : ℕ) : Type 0 where
-  pub counted : k + length (decimal rest) ≡ length (decimal n) + 1
-
--- at the start one digit is counted
-pub counted_none : (n : ℕ) → Counted n 1 n
-counted_none n = record { counted = omega arith }
-
-module _ {n k rest : ℕ} (p : Counted n k rest) where
-  -- a turn counts one more
-  pub counted_more : 10 ≤ rest → Counted n (k + 1) (rest / 10)
-  counted_more h = record { counted = omega (arith, p.counted, decimal_longer rest h) }
-
-  -- a rest of one digit is counted
-  pub counted_all : rest < 10 → k ≡ length (decimal n)
-  counted_all h = omega (arith, p.counted, ap length (decimal_one rest h))
-
-  -- a number of 64 bits has at most twenty
-  pub counted_few : n < 2 ^ 64 → k ≤ 20
-  counted_few h =
-      let most : length (decimal n) ≤ 20 = decimal_most n 20 (omega arith) (omega arith) in
-      omega (arith, p.counted, decimal_some rest)
+-- of a word w as many bytes as there is room for, copied into their place
+pub word_laid : (o : List ℕ) (at : ℕ) (w : List ℕ) {size k : ℕ} {part : List ℕ} → at < length o
+    → size ≡ min (length w) (length o - at) → k ≡ size → part ≡ take size w
+    → (at + size ≡ after o at w) × (put_mid at k o part ≡ laid o at w)
+unfolding laid
+word_laid o at w {size} {k} {part} h m e p = (
+  omega arith,
+  put_mid-paste at k o part (take size w) size p (sym e) (sym long)
+      ∙ ap₂ (λ (s : List ℕ) (n : ℕ). take at o ++ s ++ drop (at + n) o)
+      (take_all size (take size w) (omega (arith, long)) ∙ sym (take_all (length o - at) (take size w) (omega (arith, long))))
+      (sym long)
+      ∙ laid_room o at w size (omega arith),
+)
+  where
+    long : length (take size w) ≡ size
+    long = length-take-le size w (omega arith)
 
 -- the digits of n that have no room are passed over from the last, down to the first i
 pub record Passed (o : List ℕ) (at n kept i rest : ℕ) : Type 0 where
@@ -124,28 +79,23 @@ passed_more j e p h = record {
 
 -- where those with no room are passed over, none is laid yet
 pub number_none : {o : List ℕ} {at n kept i rest : ℕ} → Passed o at n kept i rest → i ≤ kept
-    → Numbers o at n kept i rest o
+    → Numbers o at n kept kept rest o
 number_none {o} {at} {n} {kept} {i} {rest} p h =
     record {
       starts = p.starts;
       size = p.size;
-      downto = h;
-      left = p.left;
-      here =
-          sym (none (dec_le (length o) (at + i)));
+      downto = omega arith;
+      left = subst (λ (k : ℕ). Left n k rest) (omega (arith, p.downto)) p.left;
+      here = sym (none (dec_le (length o) (at + kept)));
     }
   where
-    none : Dec (length o ≤ at + i) → laid o (at + i) (drop i (decimal n)) ≡ o
-    none (yes a) = laid_past o (at + i) (drop i (decimal n)) a
+    none : Dec (length o ≤ at + kept) → laid o (at + kept) (drop kept (decimal n)) ≡ o
+    none (yes a) = laid_past o (at + kept) (drop kept (decimal n)) a
     none (no a) =
-        let all : length (decimal n) ≤ i = omega (arith, p.size, p.downto) in
-        ap (laid o (at + i)) (drop_of_length-le (decimal n) all) ∙ laid_none o (at + i)
+        let all : length (decimal n) ≤ kept = omega (arith, p.size) in
+        ap (laid o (at + kept)) (drop_of_length-le (decimal n) all) ∙ laid_none o (at + kept)
 
 module _ {o : List ℕ} {at n kept i rest : ℕ} {l : List ℕ} (p : Numbers o at n kept i rest l) where
-  -- the buffer is as long as it was
-  pub number_length : length l ≡ length o
-  number_length = ap length p.here ∙ length_laid o (at + i) (drop i (decimal n))
-
   -- a turn lays the last digit of what is left
   pub number_more : (j : ℕ) → i ≡ suc j → Numbers o at n kept j (rest / 10) (set l (at + j) (digit (rest % 10)))
   number_more j e =

@@ -1,5 +1,5 @@
 -- A signed number in decimal, in ASCII.
-use Rattle.std.specs.Prelude.{List, [], ◌∷◌, ◌++◌, ℕ, suc, ◌+◌, ◌-◌, ℤ, pos, negsuc}
+use Rattle.std.specs.Prelude.{List, [], ◌∷◌, ◌++◌, ℕ, suc, ℤ, pos, negsuc}
 use Rattle.text.specs.Decimal.{decimal}
 
 -- a minus stands before the size of a number below 0
@@ -11,8 +11,3 @@ signed_decimal (negsuc n) = 45 ∷ decimal (suc n)
 unfoldable pub spaced : List ℤ → List ℕ
 spaced [] = []
 spaced (x ∷ xs) = 32 ∷ signed_decimal x ++ spaced xs
-
--- a step of the code: how far a number of 32 bits is above the least one
-abbrev pub raised_of : ℤ → ℕ
-raised_of (pos n) = n + 2147483648
-raised_of (negsuc n) = 2147483648 - suc n

@@ -28,12 +28,7 @@ pub fn put_word(out: &mut [u8], at: usize, word: &[u8]) -> usize
         return long;
     }
     let size = least(word.len(), long - at);
-    let mut i = 0;
-    while i < size {
-        let here = at + i;
-        out[here] = word[i];
-        i += 1;
-    }
+    out[at..at + size].copy_from_slice(&word[..size]);
     at + size
 }
 
@@ -41,5 +36,5 @@ pub fn put_word(out: &mut [u8], at: usize, word: &[u8]) -> usize
 pub fn least(a: usize, b: usize) -> usize
     ensures { result ≡ min a b }
 {
-    if a < b { a } else { b }
+    a.min(b)
 }

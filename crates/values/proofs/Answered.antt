@@ -10,10 +10,9 @@ use Rattle.record.specs.Fields.{index_of, too_large_field}
 use Rattle.record.specs.declared.Record.{Record}
 use Rattle.record.proofs.Laws.{index_subframe}
 use Rattle.gains.specs.Tables.{cg_table, pg_table}
-use Rattle.lsp.specs.Table.{hertz_of}
+use Rattle.lsp.specs.Table.{hertz_of, hz_in}
 use Rattle.lsp.specs.Order.{mark_of}
 use Rattle.lsp.specs.Average.{averages_of}
-use Rattle.lsp.specs.declared.Hertz.{Hertz}
 use Rattle.values.specs.declared.State.{State}
 use Rattle.values.specs.declared.Values.{Values}
 use Rattle.values.specs.declared.Outcome.{Outcome}
@@ -46,26 +45,26 @@ four p q r s = λ i. p i ∷ q i ∷ r i ∷ s i ∷ []
 -- the values of a record that is heard, put together from each step's answer
 module _ (r : Record) (before : State) where
   -- the record of the steps' answers is the definition's
-  pub heard_whole : {state : State} {cg pg : List ℤ} {delays averages previous : List ℕ} {hertz : Hertz} {mark : ℕ}
+  pub heard_whole : {state : State} {cg pg : List ℤ} {delays averages previous hz : List ℕ} {mark : ℕ}
       → cg ≡ gains_of cg_table (in_subframes (cg_index r)) → pg ≡ gains_of pg_table (in_subframes (pg_index r))
       → delays ≡ delays_of r
-      → hertz ≡ hertz_of r.lsp → previous ≡ previous_of before hertz.hz → averages ≡ averages_of previous hertz.hz
-      → mark ≡ mark_of hertz.hz → state ≡ heard_state hertz.hz r.sy
+      → hz ≡ hz_in (hertz_of r.lsp) → previous ≡ previous_of before hz → averages ≡ averages_of previous hz
+      → mark ≡ mark_of hz → state ≡ heard_state hz r.sy
       → ◌≡◌ {A = Values}
       (record { outcome = Heard; cg = cg; pg = pg; delays = delays; averages = averages; mark = mark; state = state })
       (heard_values r before)
   unfolding heard_values
-  heard_whole {hertz = hertz} cg-is pg-is delays-are hertz_is previous-is averages-are mark-is state-is =
+  heard_whole {hz = hz} cg-is pg-is delays-are hz-is previous-is averages-are mark-is state-is =
       λ i. record {
         outcome = Heard;
         cg = cg-is i;
         pg = pg-is i;
         delays = delays-are i;
         averages =
-            (averages-are ∙ ap (λ (l : List ℕ). averages_of l hertz.hz) previous-is
-            ∙ ap (λ (h : Hertz). averages_of (previous_of before h.hz) h.hz) hertz_is) i;
-        mark = (mark-is ∙ ap (λ (h : Hertz). mark_of h.hz) hertz_is) i;
-        state = (state-is ∙ ap (λ (h : Hertz). heard_state h.hz r.sy) hertz_is) i;
+            (averages-are ∙ ap (λ (l : List ℕ). averages_of l hz) previous-is
+            ∙ ap (λ (l : List ℕ). averages_of (previous_of before l) l) hz-is) i;
+        mark = (mark-is ∙ ap mark_of hz-is) i;
+        state = (state-is ∙ ap (λ (l : List ℕ). heard_state l r.sy) hz-is) i;
       }
 
   -- what each refusal gets

@@ -2,7 +2,7 @@
 -- frame to frame.
 -- Assumes nothing.
 use mathlib.Core.Path.{◌≡◌, ◌∙◌, sym, refl, ap, subst}
-use mathlib.Core.Bool.{true, false}
+use mathlib.Core.Bool.{false}
 use mathlib.Core.List.{List, [], ◌∷◌}
 use Prim.Native.Nat.{ℕ, zero, suc, ◌+◌, ◌*◌, ◌-◌, ◌^◌, ◌<◌, ◌≤◌}
 use native.Mathlib.Omega.{arith}
@@ -11,7 +11,7 @@ use borrow.Author.Tests.{eq-eqb, ne_eqb, le-leb}
 use lib.Dec.{eqb, eqb→eq}
 use lib.IntN.{ℤ, pos}
 use lib.ListN.{get_or, length}
-use Rattle.laws.specs.Tabulate.{tabulate}
+use Rattle.std.specs.Prelude.{Result, Ok, Err}
 use Rattle.laws.proofs.Cases.{of_four}
 use Rattle.laws.proofs.Table.{at}
 use Rattle.laws.proofs.Tabulate.{length_tabulate, get_d_tabulate}
@@ -20,18 +20,16 @@ use Rattle.record.specs.declared.Record.{Record}
 use Rattle.record.proofs.Laws.{none_too_large}
 use Rattle.gains.specs.Tables.{cg_table, pg_table}
 use Rattle.gains.specs.Gains.{gain_of}
-use Rattle.gains.specs.declared.Gain.TheVariants as Gain
 use Rattle.gains.proofs.Laws.{gain_value}
 use Rattle.delays.specs.Codes.{four_meant, meant_by}
-use Rattle.delays.specs.declared.Meant.{Meant}
-use Rattle.delays.specs.declared.Meant.TheVariants as Meant
-use Rattle.delays.proofs.Laws.{Fit, fit_meant, meant_within}
+use Rattle.delays.specs.declared.CodeRefusal.{CodeRefusal}
+use Rattle.delays.proofs.Laws.{Fit, fit_meant, meant_fit, meant_within}
 use Rattle.lsp.specs.Table as hertz
 use Rattle.lsp.specs.Table.{bits, lsp, column}
 use Rattle.lsp.specs.Order.{mark_of}
 use Rattle.lsp.specs.Average.{average_at, averages_of}
 use Rattle.lsp.proofs.Laws.{all_fit, hertz_at, averages_at, averages_same}
-use Rattle.values.specs.declared.LastSy.TheVariants.{Was}
+use Rattle.std.specs.Prelude.{None, Some}
 use Rattle.values.specs.declared.State.{State}
 use Rattle.values.specs.declared.Values.{Values}
 use Rattle.values.specs.declared.Outcome.{Outcome}
@@ -191,16 +189,16 @@ module _ (r : Record) (before : State) (heard : outcome_of r ≡ Heard) where
 -- ---- the averages
 
 -- a fresh state has not begun
-pub fresh_not_begun : fresh_state.begun ≡ false
+pub fresh_not_begun : fresh_state.hz ≡ None
 unfolding fresh_state
 fresh_not_begun = refl
 
 -- without a previous frame this frame's values stand for the previous ones
-pub previous_none : (before : State) (used : List ℕ) → before.begun ≡ false → previous_of before used ≡ used
+pub previous_none : (before : State) (used : List ℕ) → before.hz ≡ None → previous_of before used ≡ used
 previous_none before used e = rw e
 
 -- with one, its own do, whatever they are
-pub previous_kept : (before : State) (used : List ℕ) → before.begun ≡ true → previous_of before used ≡ before.hz
+pub previous_kept : (before : State) (used : List ℕ) {hz : List ℕ} → before.hz ≡ Some hz → previous_of before used ≡ hz
 previous_kept before used e = rw e
 
 module _ (r : Record) (before : State) (heard : outcome_of r ≡ Heard) (n j : ℕ) (a : 1 ≤ n) (b : n ≤ 4) (c : 1 ≤ j)
@@ -217,16 +215,15 @@ module _ (r : Record) (before : State) (heard : outcome_of r ≡ Heard) (n j : �
       (heard_averages r before heard ∙ ap (λ (l : List ℕ). averages_of l (used_of r before)) e)
 
   -- before the first frame it is eight times the value used
-  pub first_averages : before.begun ≡ false → averaged ≡ 8 * lsp (used_of r before) j
+  pub first_averages : before.hz ≡ None → averaged ≡ 8 * lsp (used_of r before) j
   first_averages e =
       averages_with (used_of r before) (previous_none before (used_of r before) e)
       ∙ averages_same (used_of r before) n j a b c d
 
   -- after a frame the sum of its value and the one used
-  pub later_averages : before.begun ≡ true → averaged ≡ average_at before.hz (used_of r before) n j
-  later_averages e =
-      averages_with before.hz (previous_kept before (used_of r before) e)
-      ∙ averages_at before.hz (used_of r before) n j a b c d
+  pub later_averages : {hz : List ℕ} → before.hz ≡ Some hz → averaged ≡ average_at hz (used_of r before) n j
+  later_averages {hz} e =
+      averages_with hz (previous_kept before (used_of r before) e) ∙ averages_at hz (used_of r before) n j a b c d
 
 -- ---- what a record that is not refused for an index has: LSPs, gains and delays of its own indices
 
@@ -275,17 +272,17 @@ module _ (r : Record) (fits : too_large_field r ≡ 0) where
 
   -- so they mean its delays
   pub delays_meant : meant_by (in_subframes (pd_index r))
-      ≡ Meant.Delays (get_or (delays_of r) 0 0) (get_or (delays_of r) 1 0) (get_or (delays_of r) 2 0) (get_or (delays_of r) 3 0)
+      ≡ Ok (get_or (delays_of r) 0 0 ∷ get_or (delays_of r) 1 0 ∷ get_or (delays_of r) 2 0 ∷ get_or (delays_of r) 3 0 ∷ [])
   unfolding meant_by delays_of
   delays_meant = let e = fit_meant (pd_index r 1) (pd_index r 2) (pd_index r 3) (pd_index r 4) pd_fit in e ∙ rw e refl
 
 -- the gain of each subframe, where four gains are those of four indices that fit
 given_in : (table : List ℤ) (index : ℕ → ℕ) {gains : List ℤ}
     → gains ≡ in_subframes (λ n. value_in (gain_of table (index n)))
-    → (n : ℕ) → 1 ≤ n → n ≤ 4 → index n < 32 → gain_of table (index n) ≡ Gain.Value (get_or gains (n - 1) (pos 0))
+    → (n : ℕ) → 1 ≤ n → n ≤ 4 → index n < 32 → gain_of table (index n) ≡ Ok (get_or gains (n - 1) (pos 0))
 given_in table index {gains} e n a b h =
     let g = gain_value table (index n) (omega arith) in
-    g ∙ ap Gain.Value (ap value_in (sym g) ∙ each ∙ sym (ap (λ (l : List ℤ). get_or l (n - 1) (pos 0)) e))
+    g ∙ ap Ok (ap value_in (sym g) ∙ each ∙ sym (ap (λ (l : List ℤ). get_or l (n - 1) (pos 0)) e))
   where
     each : value_in (gain_of table (index n)) ≡ get_or (in_subframes (λ m. value_in (gain_of table (index m)))) (n - 1) (pos 0)
     each =
@@ -295,12 +292,12 @@ given_in table index {gains} e n a b h =
 
 module _ (r : Record) (before : State) (heard : outcome_of r ≡ Heard) (n : ℕ) (a : 1 ≤ n) (b : n ≤ 4) where
   -- the gains of a record that is heard are those of its indices, none too large
-  pub cg_given : gain_of cg_table (cg_index r n) ≡ Gain.Value (get_or (values_of r before).cg (n - 1) (pos 0))
+  pub cg_given : gain_of cg_table (cg_index r n) ≡ Ok (get_or (values_of r before).cg (n - 1) (pos 0))
   cg_given =
       given_in cg_table (cg_index r) (heard_cg r before heard) n a b (cg_index_small r (heard_fits r heard).0 n a b)
 
   -- so are the PG
-  pub pg_given : gain_of pg_table (pg_index r n) ≡ Gain.Value (get_or (values_of r before).pg (n - 1) (pos 0))
+  pub pg_given : gain_of pg_table (pg_index r n) ≡ Ok (get_or (values_of r before).pg (n - 1) (pos 0))
   pg_given =
       given_in pg_table (pg_index r) (heard_pg r before heard) n a b (pg_index_small r (heard_fits r heard).0 n a b)
 
@@ -339,22 +336,23 @@ module _ (r : Record) (before : State) where
   state_by e = values_state ∙ ap (λ (o : Outcome). state_after o r before) e
 
   -- after a record whose indices fit the last SY is its own, heard or not
-  pub sync_kept : too_large_field r ≡ 0 → (values_of r before).state.last ≡ Was r.sy
+  pub sync_kept : too_large_field r ≡ 0 → (values_of r before).state.last ≡ Some r.sy
   sync_kept fits =
       ap (λ (t : State). t.last) values_state
-      ∙ by_outcome r (λ o. (state_after o r before).last ≡ Was r.sy) (λ z s. refl) (λ h. absurd (omega arith))
+      ∙ by_outcome r (λ o. (state_after o r before).last ≡ Some r.sy) (λ z s. refl) (λ h. absurd (omega arith))
       (λ z s. refl)
 
   -- four delays are answered in any case, none over 147 samples
   pub delays_four : length (values_of r before).delays ≡ 4
-  unfolding heard_values refused_values delays_of
+  unfolding heard_values refused_values delays_of meant_by
   delays_four =
-      by_values (λ v. length v.delays ≡ 4) (λ e. four_in (meant_by (in_subframes (pd_index r))))
+      by_values (λ v. length v.delays ≡ 4) (λ e. four_in (meant_by (in_subframes (pd_index r))) refl)
       (λ w. length_tabulate (λ k. 0) 4)
     where
-      four_in : (m : Meant) → length (delays_in m) ≡ 4
-      four_in (Meant.Delays a b c d) = refl
-      four_in (Meant.TooLarge n) = refl
+      four_in : (m : Result (List ℕ) CodeRefusal)
+          → four_meant (pd_index r 1) (pd_index r 2) (pd_index r 3) (pd_index r 4) ≡ m → length (delays_in m) ≡ 4
+      four_in (Ok delays) e = ap length (meant_fit (pd_index r 1) (pd_index r 2) (pd_index r 3) (pd_index r 4) e).1
+      four_in (Err n) e = refl
 
   -- none of the four is over 147 samples
   pub delays_most : (k : ℕ) → k < 4 → get_or (values_of r before).delays k 0 ≤ 1764
@@ -366,10 +364,13 @@ module _ (r : Record) (before : State) where
       four : (w x y z : ℕ) → w ≤ 1764 → x ≤ 1764 → y ≤ 1764 → z ≤ 1764 → get_or (w ∷ x ∷ y ∷ z ∷ []) (k + 1 - 1) 0 ≤ 1764
       four w x y z = of_four (λ n. get_or (w ∷ x ∷ y ∷ z ∷ []) (n - 1) 0 ≤ 1764) (k + 1) (omega arith) (omega arith)
 
-      most_in : (m : Meant) → four_meant (pd_index r 1) (pd_index r 2) (pd_index r 3) (pd_index r 4) ≡ m
+      most_in : (m : Result (List ℕ) CodeRefusal) → four_meant (pd_index r 1) (pd_index r 2) (pd_index r 3) (pd_index r 4) ≡ m
           → get_or (delays_in m) k 0 ≤ 1764
-      most_in (Meant.Delays w x y z) e =
-          let p = meant_within (pd_index r 1) (pd_index r 2) (pd_index r 3) (pd_index r 4) w x y z e in
-          rw (sym (add-sub_cancel k 1)) (four w x y z p.0.1 p.1.1 p.2.1 p.3.1)
-      most_in (Meant.TooLarge n) e =
+      most_in (Ok delays) e =
+          let m = meant_fit (pd_index r 1) (pd_index r 2) (pd_index r 3) (pd_index r 4) e in
+          let p = meant_within (pd_index r 1) (pd_index r 2) (pd_index r 3) (pd_index r 4) _ _ _ _
+          (fit_meant (pd_index r 1) (pd_index r 2) (pd_index r 3) (pd_index r 4) m.0) in
+          subst (λ (l : List ℕ). get_or l k 0 ≤ 1764) (sym m.1)
+          (rw (sym (add-sub_cancel k 1)) (four _ _ _ _ p.0.1 p.1.1 p.2.1 p.3.1))
+      most_in (Err n) e =
           rw (sym (add-sub_cancel k 1)) (four 0 0 0 0 (omega arith) (omega arith) (omega arith) (omega arith))

@@ -6,20 +6,12 @@ ghost use Rattle.std.specs.Prelude.{◌≡◌};
 ghost use Rattle.values.specs.Outcome.{refusal_of};
 ghost use Rattle.values.specs.Values.{fresh_state, refused_values, nothing_heard};
 
-// The SY of the frame before, or that there was none.
-#[derive(Clone, Copy)]
-pub enum LastSy {
-    Never,
-    Was(u16),
-}
-
-// What is kept from frame to frame: whether a frame was heard, the LSPs in Hz of the last that was, and the SY of the last frame,
-// heard or refused with 6.
+// What is kept from frame to frame: the LSPs in Hz of the last frame that was heard, and the SY of the last one that was heard or
+// refused with 6; `None` where there was no such frame.
 #[derive(Clone, Copy)]
 pub struct State {
-    pub begun: bool,
-    pub hz: [u16; 10],
-    pub last: LastSy,
+    pub hz: Option<[u16; 10]>,
+    pub last: Option<u16>,
 }
 
 impl State {
@@ -28,9 +20,8 @@ impl State {
         ensures { result ≡ fresh_state }
     {
         State {
-            begun: false,
-            hz: [0u16; 10],
-            last: LastSy::Never,
+            hz: None,
+            last: None,
         }
     }
 }
@@ -59,7 +50,8 @@ impl Outcome {
 }
 
 // What a record says, subframe 1 first; PG in thousandths, delays in twelfths of a sample, averages in eighths of a Hz.
-// Where nothing was heard all are 0.
+// Where nothing was heard all are 0: the outcome stands beside the values, and is no Result of them, since `NothingStays` and the edits
+// `refused_is_marked` and `nothing_told_as_heard` speak of values without a record.
 #[derive(Clone, Copy)]
 pub struct Values {
     pub outcome: Outcome,

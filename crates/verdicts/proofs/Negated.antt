@@ -1,8 +1,9 @@
 -- A small number turned round: it has room in 32 bits, and is minus that number.
 -- Assumes nothing.
 use mathlib.Core.Path.{◌≡◌, refl, sym, ap, subst, ◌∙◌}
-use Prim.Native.Nat.{ℕ, ◌<◌, ◌≤◌}
+use Prim.Native.Nat.{ℕ, ◌<◌, ◌≤◌, min}
 use native.Mathlib.Omega.{arith}
+use native.Mathlib.Decide.{dec_lt}
 use borrow.Author.Tests.{le-ltb, lt-ltb}
 use lib.IntN.{ℤ, pos, ◌-ℤ◌}
 use mir.Syntax.{w32}
@@ -30,8 +31,12 @@ module _ (n : ℕ) (small : n ≤ 15) where
   minus_is = to_z-of_z minus_fits ∙ back ∙ sym minus_small
 
 -- one that is not is held
-pub minus_large : (n : ℕ) → 15 < n → refused 15 ≡ minus_of n
-minus_large n large = rw (lt-ltb 15 n large) refl
+pub minus_held : (n : ℕ) {m : ℕ} → m ≡ min n 15 → minus_of m ≡ minus_of n
+minus_held n {m} e = go (dec_lt 15 n)
+  where
+    go : Dec (15 < n) → minus_of m ≡ minus_of n
+    go (yes large) = let f : m ≡ 15 = omega (arith, e) in ap minus_of f ∙ rw (lt-ltb 15 n large) refl
+    go (no small) = let f : m ≡ n = omega (arith, e) in ap minus_of f
 
 -- no refusal of a recording has a number over 15
 pub small_number : (cause : Cause) → refusal_of cause ≤ 15

@@ -4,11 +4,11 @@ use mathlib.Core.Path.{◌≡◌, sym, ap, ◌∙◌}
 use mathlib.Core.List.{List}
 use Prim.Native.Nat.{ℕ}
 use lib.IntN.{ℤ, pos}
+use Rattle.std.specs.Prelude.{Ok, Err}
 use Rattle.blocks.specs.Walk.{walked_of}
 use Rattle.blocks.specs.Refusals.{refusal_of, told_of, ending_refusal}
 use Rattle.blocks.specs.declared.Cause.{Cause}
-use Rattle.blocks.specs.declared.Ending.{Ending}
-use Rattle.blocks.specs.declared.Ending.TheVariants.{Sound, Refused}
+use Rattle.blocks.specs.Walk.{Ending}
 use Rattle.blocks.specs.declared.Told.{Told}
 use Rattle.blocks.specs.declared.Walked.{Walked}
 use Rattle.verdicts.proofs.Negated.{minus_small, small_number}
@@ -26,7 +26,7 @@ module _ (s : List ℕ) {walked : Walked} (is : walked ≡ walked_of s) where
   ended e = sym e ∙ ap (λ (w : Walked). w.ending) is
 
   -- a refused recording
-  pub was_refused : (cause : Cause) {n : ℕ} {r : ℤ} {told : List ℕ} → walked.ending ≡ Refused cause
+  pub was_refused : (cause : Cause) {n : ℕ} {r : ℤ} {told : List ℕ} → walked.ending ≡ Err cause
       → n ≡ refusal_of cause → r ≡ minus_of n → told ≡ refusal_told (told_of cause) (cause_number cause)
       → (r ≡ verdict_of s) × (told ≡ recording_told s)
   unfolding verdict_of recording_told
@@ -36,11 +36,11 @@ module _ (s : List ℕ) {walked : Walked} (is : walked ≡ walked_of s) where
   )
 
   -- a sound one
-  pub was_sound : walked.ending ≡ Sound
-      → (pos 0 ≡ verdict_of s) × (ending_told Sound walked.walk.heading ≡ recording_told s)
+  pub was_sound : walked.ending ≡ Ok tt
+      → (pos 0 ≡ verdict_of s) × (ending_told (Ok tt) walked.walk.heading ≡ recording_told s)
   unfolding verdict_of recording_told
   was_sound e = (
     ap (λ (x : Ending). refused (ending_refusal x)) (ended e),
-    ap (λ (w : Walked). ending_told Sound w.walk.heading) is
+    ap (λ (w : Walked). ending_told (Ok tt) w.walk.heading) is
         ∙ ap (λ (x : Ending). ending_told x (walked_of s).walk.heading) (ended e),
   )

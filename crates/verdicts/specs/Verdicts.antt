@@ -1,13 +1,12 @@
 -- A recording's verdict as numbers, for C: "Refusals are minus their number, as the reader's; what a refusal tells goes
 -- into a lent number where there is something to tell."
-use Rattle.std.specs.Prelude.{cond, List, [], ◌∷◌, ℕ, ltb, ℤ, pos, neg_ℤ}
+use Rattle.std.specs.Prelude.{cond, List, [], ◌∷◌, ℕ, ltb, ℤ, pos, neg_ℤ, Ok, Err}
 use Rattle.blocks.specs.Walk.{walked_of}
 use Rattle.blocks.specs.Refusals.{told_of, walked_refusal}
 use Rattle.blocks.specs.declared.Cause.{Cause}
 use Rattle.blocks.specs.declared.Cause.TheVariants.{TooLong, HeaderCut, PastEnd, WrongSize, UnknownKind}
 use Rattle.blocks.specs.declared.Cause.TheVariants.{OutOfTurn, EndMissing, WrongCount, Extra}
-use Rattle.blocks.specs.declared.Ending.{Ending}
-use Rattle.blocks.specs.declared.Ending.TheVariants.{Sound, Refused}
+use Rattle.blocks.specs.Walk.{Ending}
 use Rattle.blocks.specs.declared.Heading.{Heading}
 use Rattle.blocks.specs.declared.Told.{Told}
 use Rattle.blocks.specs.declared.Told.TheVariants.{Nothing, Place, PlaceAndSize}
@@ -43,8 +42,8 @@ refusal_told (Place p) cause = 0 ∷ 0 ∷ p ∷ 0 ∷ cause ∷ []
 refusal_told (PlaceAndSize p size) cause = 0 ∷ 0 ∷ p ∷ size ∷ cause ∷ []
 
 abbrev pub ending_told : Ending → Heading → List ℕ
-ending_told Sound heading = heading.unit ∷ heading.number ∷ 0 ∷ 0 ∷ 0 ∷ []
-ending_told (Refused cause) heading = refusal_told (told_of cause) (cause_number cause)
+ending_told (Ok _) heading = heading.unit ∷ heading.number ∷ 0 ∷ 0 ∷ 0 ∷ []
+ending_told (Err cause) heading = refusal_told (told_of cause) (cause_number cause)
 
 unfoldable pub recording_told : List ℕ → List ℕ
 recording_told s = ending_told (walked_of s).ending (walked_of s).walk.heading

@@ -5,7 +5,7 @@ ghost use Rattle.std.specs.Prelude.{◌≡◌};
 ghost use Rattle.verdicts.specs.Verdicts.{minus_of, verdict_of, cause_number, refusal_told, recording_told};
 ghost use Rattle.blocks.specs.Refusals.{told_of};
 
-use blocks::{Cause, Ending, Told};
+use blocks::{Cause, Told};
 
 // Judges any bytes as a recording. Of a sound one its unit and its number are told; of a refused one the place, the size and the
 // cause.
@@ -14,13 +14,12 @@ pub fn tell(s: &[u8], told: &mut [usize; 5]) -> i32
     ensures told_after { told.new ≡ recording_told s.now }
 {
     let walked = walk::walk_through(s);
-    let ending = walked.ending;
-    match ending {
-        Ending::Refused(cause) => {
+    match walked.ending {
+        Err(cause) => {
             *told = told_of(cause);
             minus(refusals::refusal_number(cause))
         }
-        Ending::Sound => {
+        Ok(()) => {
             let heading = walked.walk.heading;
             *told = [heading.unit as usize, heading.number as usize, 0, 0, 0];
             0
@@ -32,10 +31,7 @@ pub fn tell(s: &[u8], told: &mut [usize; 5]) -> i32
 pub fn minus(number: u32) -> i32
     ensures { result ≡ minus_of number }
 {
-    if 15 < number {
-        return -15;
-    }
-    0 - number as i32
+    0 - number.min(15) as i32
 }
 
 // What is told of a refused recording.

@@ -4,7 +4,7 @@
 ghost use Rattle.std.specs.Prelude.{◌≡◌, get_or};
 ghost use Rattle.blocks.specs.Frames.{voice_size, spans_from, nowhere, span_of, voice_block_of, bytes_on, found_at};
 
-use blocks::{Block, Ending, Found, Span};
+use blocks::{Block, Found, Span};
 
 // The payload of the k-th voice block, counted from 0, as that part of the bytes; the empty part where there is none.
 pub fn voice_block(s: &[u8], k: usize) -> &[u8]
@@ -17,18 +17,14 @@ pub fn voice_block(s: &[u8], k: usize) -> &[u8]
     &s[from..to]
 }
 
-// Where the payload of the k-th voice block stands; from 0 to 0 where there is none.
+// Where the payload of the k-th voice block stands; from 0 to 0 where there is none, as `NoSuchBlock` and the interface for C have it.
 pub fn voice_span(s: &[u8], k: usize) -> Span
     ensures { result ≡ span_of s.now k }
 {
     let walked = walk::walk_through(s);
-    let ending = walked.ending;
-    match ending {
-        Ending::Refused(_) => Span { from: 0, to: 0 },
-        Ending::Sound => {
-            let voices = walked.walk.voices;
-            span_from(s, voices, k)
-        }
+    match walked.ending {
+        Err(_) => Span { from: 0, to: 0 },
+        Ok(()) => span_from(s, walked.walk.voices, k),
     }
 }
 
@@ -38,6 +34,7 @@ fn span_from(s: &[u8], voices: usize, k: usize) -> Span
 {
     let mut at = voices;
     let mut before = k;
+    // A `for` over the blocks before the k-th would ask twice whether a block stands there, in it and after it.
     loop {
         let size = voice_size(s, at);
         if size == 0 {
@@ -58,35 +55,32 @@ fn voice_size(s: &[u8], at: usize) -> usize
     ensures { result ≡ voice_size s.now at }
 {
     match blocks::block_at(s, at) {
-        Block::Head(_) => 0,
-        Block::Voice(size) => size,
-        Block::End(_) => 0,
-        Block::Broken(_) => 0,
+        Ok(Block::Head(_)) => 0,
+        Ok(Block::Voice(size)) => size,
+        Ok(Block::End(_)) => 0,
+        Err(_) => 0,
     }
 }
 
 // The next frame from a place on, where `left` bytes of a voice block are left; with none left, the first of the voice block there.
-pub fn find(s: &[u8], at: usize, left: usize) -> Found
+pub fn find(s: &[u8], at: usize, left: usize) -> Option<Found>
     ensures { result ≡ found_at s.now at left }
 {
     if left == 0 {
         let size = voice_size(s, at);
         if size == 0 {
-            return Found::Nothing;
+            return None;
         }
-        let first = at + 6;
-        let rest = size - 18;
-        return Found::At(first, rest);
+        return Some(Found {
+            first: at + 6,
+            rest: size - 18,
+        });
     }
-    if left < 18 {
-        return Found::Nothing;
+    if left < 18 || s.len() < 18 || s.len() - 18 < at {
+        return None;
     }
-    if s.len() < 18 {
-        return Found::Nothing;
-    }
-    if s.len() - 18 < at {
-        return Found::Nothing;
-    }
-    let rest = left - 18;
-    Found::At(at, rest)
+    Some(Found {
+        first: at,
+        rest: left - 18,
+    })
 }

@@ -4,9 +4,10 @@
 
 ghost use Rattle.std.specs.Prelude.{◌≡◌, ◌+◌, ◌*◌, ◌≤◌, length};
 ghost use Rattle.blocks.specs.Walk.{longest, refuse, at_head, at_voice, ending_at, step_of, walk_from, walked_of};
-ghost use Rattle.blocks.specs.declared.Moved.TheVariants.{Done};
+ghost use Rattle.std.specs.declared.ops.ControlFlow.TheVariants.{Break};
 
-use blocks::{Block, Cause, Ending, Heading, Moved, Walk, Walked};
+use blocks::{Block, Cause, Heading, Walk, Walked};
+use std::ops::ControlFlow;
 
 // Walks through the blocks of any bytes: what was passed, and whether the recording is sound or why it is refused.
 pub fn walk_through(s: &[u8]) -> Walked
@@ -22,7 +23,7 @@ pub fn walk_through(s: &[u8]) -> Walked
     if 65536 < s.len() {
         return Walked {
             walk,
-            ending: Ending::Refused(Cause::TooLong),
+            ending: Err(Cause::TooLong),
         };
     }
     walk_from(s, walk)
@@ -35,39 +36,38 @@ fn walk_from(s: &[u8], start: Walk) -> Walked
     ensures { result ≡ walk_from s.now start }
 {
     let mut walk = start;
+    // no index is counted: each step says where the next one begins
     loop {
         match advance(s, walk) {
-            Moved::On(next) => walk = next,
-            Moved::Done(ending) => return Walked { walk, ending },
+            ControlFlow::Continue(next) => walk = next,
+            ControlFlow::Break(ending) => return Walked { walk, ending },
         }
     }
 }
 
-// One step of a walk.
-fn advance(s: &[u8], w: Walk) -> Moved
+// One step of a walk: on past a block, or to the end, which is no failure where it is a sound one.
+fn advance(s: &[u8], w: Walk) -> ControlFlow<Result<(), Cause>, Walk>
     requires s_len_bound { length s.now ≤ longest }
     requires frames_bound { 18 * w.frames ≤ w.at }
     ensures { result ≡ step_of s.now w }
 {
-    let at = w.at;
-    let frames = w.frames;
-    match blocks::block_at(s, at) {
-        Block::Head(heading) => meet_head(w, heading),
-        Block::Voice(size) => meet_voice(w, size),
-        Block::End(told) => meet_end(s.len(), at, frames, told),
-        Block::Broken(cause) => refuse(cause),
+    match blocks::block_at(s, w.at) {
+        Ok(Block::Head(heading)) => meet_head(w, heading),
+        Ok(Block::Voice(size)) => meet_voice(w, size),
+        Ok(Block::End(told)) => meet_end(s.len(), w.at, w.frames, told),
+        Err(cause) => refuse(cause),
     }
 }
 
 // A step to a refusal.
-fn refuse(cause: Cause) -> Moved
+fn refuse(cause: Cause) -> ControlFlow<Result<(), Cause>, Walk>
     ensures { result ≡ refuse cause }
 {
-    Moved::Done(Ending::Refused(cause))
+    ControlFlow::Break(Err(cause))
 }
 
 // A walk that comes to a head: past it, where none was passed before.
-fn meet_head(w: Walk, heading: Heading) -> Moved
+fn meet_head(w: Walk, heading: Heading) -> ControlFlow<Result<(), Cause>, Walk>
     requires { w.at + 6 + 8 ≤ longest }
     ensures { result ≡ at_head w heading }
 {
@@ -76,7 +76,7 @@ fn meet_head(w: Walk, heading: Heading) -> Moved
         return refuse(Cause::OutOfTurn(at));
     }
     let next = at + 6 + 8;
-    Moved::On(Walk {
+    ControlFlow::Continue(Walk {
         at: next,
         headed: true,
         heading,
@@ -86,7 +86,7 @@ fn meet_head(w: Walk, heading: Heading) -> Moved
 }
 
 // A walk that comes to a voice block: past it and its frames, where the head was passed before.
-fn meet_voice(w: Walk, size: usize) -> Moved
+fn meet_voice(w: Walk, size: usize) -> ControlFlow<Result<(), Cause>, Walk>
     requires size_bound { w.at + 6 + size ≤ longest }
     requires frames_bound { 18 * w.frames ≤ w.at }
     ensures { result ≡ at_voice w size }
@@ -99,33 +99,33 @@ fn meet_voice(w: Walk, size: usize) -> Moved
         let mut further = w;
         further.at = next;
         further.frames = frames;
-        return Moved::On(further);
+        return ControlFlow::Continue(further);
     }
     refuse(Cause::OutOfTurn(at))
 }
 
 // A walk past so many frames that comes to an end block that tells a number of frames, in so many bytes in all.
-fn meet_end(long: usize, at: usize, frames: u32, told: u32) -> Moved
+fn meet_end(long: usize, at: usize, frames: u32, told: u32) -> ControlFlow<Result<(), Cause>, Walk>
     requires { at + 6 + 4 ≤ longest }
-    ensures { result ≡ Done (ending_at long at frames told) }
+    ensures { result ≡ Break (ending_at long at frames told) }
 {
-    Moved::Done(ending_at(long, at, frames, told))
+    ControlFlow::Break(ending_at(long, at, frames, told))
 }
 
 // How it ends there.
-fn ending_at(long: usize, at: usize, frames: u32, told: u32) -> Ending
+fn ending_at(long: usize, at: usize, frames: u32, told: u32) -> Result<(), Cause>
     requires { at + 6 + 4 ≤ longest }
     ensures { result ≡ ending_at long at frames told }
 {
     if frames == 0 {
-        return Ending::Refused(Cause::OutOfTurn(at));
+        return Err(Cause::OutOfTurn(at));
     }
     if told != frames {
-        return Ending::Refused(Cause::WrongCount(at));
+        return Err(Cause::WrongCount(at));
     }
     let after = at + 6 + 4;
     if long != after {
-        return Ending::Refused(Cause::Extra(after));
+        return Err(Cause::Extra(after));
     }
-    Ending::Sound
+    Ok(())
 }

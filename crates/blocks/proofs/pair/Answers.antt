@@ -1,6 +1,6 @@
-use native.Mathlib.Omega.{arith}
+use mathlib.Core.Path.{◌∙◌}
 use Rattle.blocks.proofs.Blocks.{pair_of}
 use Rattle.blocks.proofs.pair.Goals as goal
 
 pub returns : goal.returns
-returns c = record { value = pair_of _ _ _ _ c.byte-a.ensures.value c.byte-b.ensures.value; upper_bound = omega (arith, c.byte-a.ensures.upper_bound, c.byte-b.ensures.upper_bound) }
+returns c = c.from.ensures ∙ c.from_le_bytes.ensures ∙ pair_of _ _

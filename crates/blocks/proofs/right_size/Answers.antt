@@ -1,17 +1,20 @@
+use mathlib.Core.Path.{◌∙◌}
+use native.Mathlib.Omega.{arith}
+use borrow.Author.Tests.{le-ltb}
 use Rattle.blocks.proofs.Blocks.{right_head, right_empty, right_some, right_end, right_other}
 use Rattle.blocks.proofs.right_size.Goals as goal
 
-pub returns-then-kind-eq1 : goal.returns-then-kind-eq1
-returns-then-kind-eq1 c = right_head _ _ c.if-kind-eq1.true
+pub returns-in-1 : goal.returns-in-1
+returns-in-1 c = right_head _ _ c.in-1.is
 
-pub returns-then-size-eq0 : goal.returns-then-size-eq0
-returns-then-size-eq0 c = right_empty _ _ c.if-kind-eq2.true c.if-size-eq0.true
+pub returns-then-size-gt0 : goal.returns-then-size-gt0
+returns-then-size-gt0 c = right_some _ _ c.in-2.is (λ z. omega arith)
 
-pub returns-then-kind-eq2 : goal.returns-then-kind-eq2
-returns-then-kind-eq2 c = right_some _ _ c.if-kind-eq2.true c.if-size-eq0.false
+pub returns-else-size-gt0 : goal.returns-else-size-gt0
+returns-else-size-gt0 c = le-ltb 0 _ (omega arith) ∙ right_empty _ _ c.in-2.is (omega arith)
 
-pub returns-then-kind-eq3 : goal.returns-then-kind-eq3
-returns-then-kind-eq3 c = right_end _ _ c.if-kind-eq3.true
+pub returns-in-3 : goal.returns-in-3
+returns-in-3 c = right_end _ _ c.in-3.is
 
-pub returns : goal.returns
-returns c = right_other _ _ c.if-kind-eq1.false c.if-kind-eq2.false c.if-kind-eq3.false
+pub returns-in_default : goal.returns-in_default
+returns-in_default c = right_other _ _ (λ z. omega arith) (λ z. omega arith) (λ z. omega arith)

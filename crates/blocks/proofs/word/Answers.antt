@@ -1,5 +1,6 @@
+use mathlib.Core.Path.{◌∙◌}
 use Rattle.blocks.proofs.Blocks.{word_of}
 use Rattle.blocks.proofs.word.Goals as goal
 
 pub returns : goal.returns
-returns c = word_of _ _ _ _ c.pair-low.ensures.value c.pair-high.ensures.value
+returns c = c.from_le_bytes.ensures ∙ word_of _ _

@@ -6,6 +6,3 @@ use Rattle.codebook.proofs.copy_code.Goals as goal
 pub copy_from-requires : goal.copy_from-requires
 unfolding book
 copy_from-requires c = record { elements_value = refl; index_bound = c.requires }
-
-pub returns : goal.returns
-returns c = c.copy_from.ensures

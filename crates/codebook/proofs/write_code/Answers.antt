@@ -10,9 +10,6 @@ returns-then-out-ne60 c = clauses (λ value out_after. record { value = value; o
 pub returns-then-index-gt511 : goal.returns-then-index-gt511
 returns-then-index-gt511 c = clauses (λ value out_after. record { value = value; out_after = out_after }) (refused_index c.args.index _ c.if-out-ne60.false c.if-index-gt511.true)
 
-pub copy_code-requires : goal.copy_code-requires
-copy_code-requires c = (omega arith, omega arith)
-
 pub returns : goal.returns
 returns c = clauses (λ value out_after. record { value = value; out_after = out_after }) (laid c.args.index c.args.out.now _ c.if-out-ne60.false (omega arith)
     c.copy_code.ensures)

@@ -1,35 +1,18 @@
 -- `coder::codes` meets its contract: the first pair's answer decides, or past it the second's.
-use mathlib.Core.Path.{◌∙◌, sym}
-use Rattle.delays.specs.Steps.{coded_pair}
+use Rattle.std.proofs.Common.{◌∙◌, sym, ap, Ok}
+use Rattle.std.proofs.lemmas.Result.{err_from_is_err_and}
 use Rattle.delays.proofs.Pairs.{by_first, by_second}
 use Rattle.coder.proofs.codes.Goals as goal
 
-pub returns-in-FirstNotListed : goal.returns-in-FirstNotListed
-returns-in-FirstNotListed c = by_first _ (sym c.coded_pair.ensures ∙ c.in-FirstNotListed.is)
+pub returns-in_err-a : goal.returns-in_err-a
+returns-in_err-a c =
+    let p = err_from_is_err_and c.from_residual.result c.from_residual.ensures.1 in
+    rw (p.1, p.2) (by_first _ (sym c.in_err-a.ensures))
 
-pub returns-in-SecondNotListed : goal.returns-in-SecondNotListed
-returns-in-SecondNotListed c = by_first _ (sym c.coded_pair.ensures ∙ c.in-SecondNotListed.is)
+pub returns-in_err-c : goal.returns-in_err-c
+returns-in_err-c c =
+    let p = err_from_is_err_and c.from_residual-in_err-c.result c.from_residual-in_err-c.ensures.1 in
+    rw (p.1, p.2) (by_second _ (sym c.in_ok-a.ensures) (sym c.in_err-c.ensures))
 
-pub returns-in-SecondOutside : goal.returns-in-SecondOutside
-returns-in-SecondOutside c = by_first _ (sym c.coded_pair.ensures ∙ c.in-SecondOutside.is)
-
-pub returns-in-FirstNotListed-coded_pair : goal.returns-in-FirstNotListed-coded_pair
-returns-in-FirstNotListed-coded_pair c =
-    by_second _ (sym c.coded_pair.ensures ∙ c.in-Inside.is)
-    (sym c.coded_pair-in-Inside.ensures ∙ c.in-FirstNotListed-coded_pair.is)
-
-pub returns-in-SecondNotListed-coded_pair : goal.returns-in-SecondNotListed-coded_pair
-returns-in-SecondNotListed-coded_pair c =
-    by_second _ (sym c.coded_pair.ensures ∙ c.in-Inside.is)
-    (sym c.coded_pair-in-Inside.ensures ∙ c.in-SecondNotListed-coded_pair.is)
-
-pub returns-in-SecondOutside-coded_pair : goal.returns-in-SecondOutside-coded_pair
-returns-in-SecondOutside-coded_pair c =
-    by_second _ (sym c.coded_pair.ensures ∙ c.in-Inside.is)
-    (sym c.coded_pair-in-Inside.ensures ∙ c.in-SecondOutside-coded_pair.is)
-
-pub returns-in-Inside-coded_pair : goal.returns-in-Inside-coded_pair
-returns-in-Inside-coded_pair c =
-    c.both_inside.ensures
-    ∙ by_second _ (sym c.coded_pair.ensures ∙ c.in-Inside.is)
-    (sym c.coded_pair-in-Inside.ensures ∙ c.in-Inside-coded_pair.is)
+pub returns : goal.returns
+returns c = ap Ok c.both_inside.ensures ∙ by_second _ (sym c.in_ok-a.ensures) (sym c.in_ok-c.ensures)

@@ -7,9 +7,9 @@ use Rattle.gateway.proofs.Answered.{wrong_bytes, was_asked}
 use Rattle.laws.proofs.Clauses.{clauses}
 use Rattle.gateway.proofs.oatlantern_write_frame.Goals as goal
 
-pub returns-then-taken : goal.returns-then-taken
-returns-then-taken c = clauses (λ value frame_after. record { value = value; frame_after = frame_after }) (was_asked _ _ c.take-taken.ensures c.if-taken.true c.write.ensures.value c.write.ensures.frame_after
+pub returns-in-Some : goal.returns-in-Some
+returns-in-Some c = clauses (λ value frame_after. record { value = value; frame_after = frame_after }) (was_asked _ _ c.in-Some.ensures c.write.ensures.value c.write.ensures.frame_after
     (to_z-of_z {w = w32} (sfits_of c.result.type_inv) ∙ c.result.ensures))
 
-pub returns : goal.returns
-returns c = clauses (λ value frame_after. record { value = value; frame_after = frame_after }) (wrong_bytes _ _ c.take-taken.ensures c.if-taken.false)
+pub returns-in-None : goal.returns-in-None
+returns-in-None c = clauses (λ value frame_after. record { value = value; frame_after = frame_after }) (wrong_bytes _ _ c.in-None.ensures)

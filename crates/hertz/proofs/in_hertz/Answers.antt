@@ -1,19 +1,20 @@
--- `hertz::in_hertz` meets its contract: the lowest LSP that is too large decides, and the table is as printed.
-use mathlib.Core.Path.{◌∙◌, sym}
-use Rattle.laws.specs.Tabulate.{tabulate_from}
+use Rattle.std.proofs.Common.{◌∙◌, ap, sym, arith, Ok}
 use Rattle.lsp.specs.Table.{hz_table}
-use Rattle.lsp.proofs.Columns.{refused, heard}
+use Rattle.lsp.proofs.Laws.{hertz_given}
+use Rattle.lsp.proofs.Columns.{wide_found, all_fitting}
 use Rattle.hertz.proofs.in_hertz.Goals as goal
 
-pub returns-then-large-ne0 : goal.returns-then-large-ne0
-unfolding tabulate_from
-returns-then-large-ne0 c = refused _ c.too_large-large.ensures c.if-large-ne0.true
+pub returns-then-indices-i-ne0 : goal.returns-then-indices-i-ne0
+returns-then-indices-i-ne0 c = wide_found c.loop-i.invariant (omega arith) c.if-indices-i-ne0.true
 
 -- one computed test of all entries
-pub looked_up-hz-requires : goal.looked_up-hz-requires
+pub looked_up-requires-clause-printed : goal.looked_up-requires-clause-printed
 unfolding hz_table
-looked_up-hz-requires c = record { printed = tt; indices_value = sym c.too_large-large.ensures ∙ c.if-large-ne0.false }
+looked_up-requires-clause-printed c = tt
+
+pub looked_up-requires-clause-indices_value : goal.looked_up-requires-clause-indices_value
+looked_up-requires-clause-indices_value c = all_fitting c.loop-i.invariant (omega arith)
 
 pub returns : goal.returns
 returns c =
-    heard _ c.too_large-large.ensures c.if-large-ne0.false c.looked_up-hz.ensures
+    ap Ok c.looked_up.ensures ∙ sym (hertz_given c.args.indices (all_fitting c.loop-i.invariant (omega arith)))

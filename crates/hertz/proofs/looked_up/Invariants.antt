@@ -1,11 +1,7 @@
 -- `hertz::looked_up` meets its contract. The loop's invariant: the places passed hold Hz.
-use Prim.Native.Nat.{◌-◌}
 use Rattle.laws.proofs.Filled.{Filled}
 use Rattle.lsp.specs.Table.{hz_at}
 use Rattle.hertz.proofs.looked_up.Given as goal
 
 abbrev pub invariant-loop-i : goal.invariant-loop-i
 invariant-loop-i l = Filled 0 (hz_at l.indices) 10 l.i l.hz
-
-abbrev pub decreases-loop-i : goal.decreases-loop-i
-decreases-loop-i l = 10 - l.i

@@ -2,6 +2,7 @@ use mathlib.Core.Path.{◌∙◌, sym, ap}
 use native.Mathlib.Omega.{arith}
 use Rattle.blocks.specs.declared.Walked.{Walked}
 use Rattle.kept.proofs.Plans.{plan_long, plan_buffer, plan_walked, plan_room}
+use Rattle.kept.proofs.Returns.{sound_ok}
 use Rattle.laws.proofs.Clauses.{clauses}
 use Rattle.kept.proofs.planned.Goals as goal
 
@@ -21,4 +22,4 @@ pub returns : goal.returns
 returns c =
     c.plan_by.ensures
     ∙ plan_walked _ _ (omega (arith, c.if-s-gt65536.false)) (omega (arith, c.if-room-ne65536.false)) _
-    c.walk_through-walked.ensures _ _ c.left_of-left.ensures c.is_sound.ensures
+    c.walk_through-walked.ensures _ _ c.left_of-left.ensures (c.is_ok.ensures.value ∙ sound_ok _)

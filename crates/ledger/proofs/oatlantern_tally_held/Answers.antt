@@ -3,8 +3,8 @@ use Rattle.ledger.proofs.Told.{held_told}
 use Rattle.laws.proofs.Clauses.{clauses}
 use Rattle.ledger.proofs.oatlantern_tally_held.Goals as goal
 
-pub returns-in-Count : goal.returns-in-Count
-returns-in-Count c = clauses (λ value count_after. record { value = value; count_after = count_after }) (held_told _ c.ask.ensures c.in-Count.is)
+pub returns-in-Some : goal.returns-in-Some
+returns-in-Some c = clauses (λ value count_after. record { value = value; count_after = count_after }) (held_told _ c.ask.ensures c.in-Some.is)
 
-pub returns-in-Nothing : goal.returns-in-Nothing
-returns-in-Nothing c = clauses (λ value count_after. record { value = value; count_after = count_after }) (held_told _ c.ask.ensures c.in-Nothing.is)
+pub returns-in-None : goal.returns-in-None
+returns-in-None c = clauses (λ value count_after. record { value = value; count_after = count_after }) (held_told _ c.ask.ensures c.in-None.is)

@@ -5,4 +5,4 @@ use lib.Seq.{length-take-le}
 use Rattle.lent_for_c.proofs.listed_in.Goals as goal
 
 pub slice_bounds-listed-end-2 : goal.slice_bounds-listed-end-2
-slice_bounds-listed-end-2 c = sym (length-take-le _ _ (omega (arith, c.least-long.ensures)))
+slice_bounds-listed-end-2 g c = sym (length-take-le _ _ (omega (arith, c.min-long.ensures)))

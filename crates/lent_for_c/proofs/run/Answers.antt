@@ -5,4 +5,4 @@ use lib.Seq.{length-take-le}
 use Rattle.lent_for_c.proofs.run.Goals as goal
 
 pub slice_bounds-salvaged-end-2 : goal.slice_bounds-salvaged-end-2
-slice_bounds-salvaged-end-2 c = sym (length-take-le _ _ (omega (arith, c.least-first.ensures)))
+slice_bounds-salvaged-end-2 g c = sym (length-take-le _ _ (omega (arith, c.min-first.ensures)))

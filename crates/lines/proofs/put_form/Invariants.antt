@@ -1,9 +1,5 @@
-use Prim.Native.Nat.{◌-◌}
 use Rattle.lines.proofs.Forms.{Laying}
 use Rattle.lines.proofs.put_form.Given as goal
 
-abbrev pub invariant-loop-i : goal.invariant-loop-i
-invariant-loop-i l = Laying l.initial.out l.at l.form.numbers l.form.bytes l.size l.out l.end l.i
-
-abbrev pub decreases-loop-i : goal.decreases-loop-i
-decreases-loop-i l = l.size - l.i
+abbrev pub invariant-loop-c : goal.invariant-loop-c
+invariant-loop-c l = Laying l.initial.out l.at l.fn.form.numbers l.c-items l.out l.end l.c-index

@@ -1,11 +1,6 @@
 -- `mixing::sum_of` meets its contract: both products and the sum fit 64 bits.
-use mir.Syntax.{w32}
-use Rattle.laws.proofs.Held.{cast_fits}
 use Rattle.mixing.proofs.Sums.{scaled_fits, sum_fits, sum_is}
 use Rattle.mixing.proofs.sum_of.Goals as goal
-
-pub overflow_cast-ternary : goal.overflow_cast-ternary
-overflow_cast-ternary c = cast_fits w32 c.ranges.ternary tt
 
 pub overflow_mul-scaled : goal.overflow_mul-scaled
 overflow_mul-scaled c =

@@ -1,21 +1,7 @@
-use native.Mathlib.Omega.{arith}
-use borrow.Author.Rules.{sfits_of}
-use mir.Syntax.{w16}
-use Rattle.gains.proofs.Down.{only_last, as_near, farther, read_apart, come_down}
+use Rattle.std.proofs.Common.{◌∙◌, ap, arith, to_z-of_z}
+use Rattle.gains.specs.Nearest.{nearest_of}
+use Rattle.nearest.proofs.Passed.{all_passed}
 use Rattle.nearest.proofs.nearest.Goals as goal
 
-pub loop-i-init : goal.loop-i-init
-loop-i-init c = only_last _ _ (omega arith) (read_apart {w = w16} _ (sfits_of c.last-1.given) c.distance-near.ensures)
-
-pub loop-i-preserved-then-d-near : goal.loop-i-preserved-then-d-near
-loop-i-preserved-then-d-near c =
-    as_near _ _ c.loop-i.invariant (omega arith)
-    (read_apart {w = w16} _ (sfits_of c.entry-1.given) c.distance-d.ensures) (omega arith)
-
-pub loop-i-preserved : goal.loop-i-preserved
-loop-i-preserved c =
-    farther _ _ c.loop-i.invariant (omega arith)
-    (read_apart {w = w16} _ (sfits_of c.entry-1.given) c.distance-d.ensures) (omega arith)
-
 pub returns : goal.returns
-returns c = come_down _ c.ranges.x c.loop-i-test.false c.loop-i.invariant
+returns c = all_passed _ c.args.table.now (omega arith) c.loop-i.invariant ∙ ap (nearest_of c.args.table.now) (to_z-of_z c.ranges.x)

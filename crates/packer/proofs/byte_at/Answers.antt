@@ -12,28 +12,16 @@ use Rattle.packer.proofs.byte_at.Goals as goal
 within : (k q : ℕ) → k < 18 → q < 8 → 8 * k + q < 144
 within k q h t = omega (arith, h, t)
 
-pub overflow_mul-from : goal.overflow_mul-from
-overflow_mul-from c = omega (arith, c.requires.k_bound)
-
 pub loop-q-init : goal.loop-q-init
 loop-q-init c = shifted_none (sent (λ f. get_or c.args.fields.now f 0)) (sent_small _) _
-
-pub overflow_add-entry : goal.overflow_add-entry
-overflow_add-entry c = omega (arith, c.requires.k_bound)
 
 pub bounds-table-from : goal.bounds-table-from
 bounds-table-from c =
     let e = ap length c.requires.table_value ∙ length_entries in
     omega (arith, e, c.requires.k_bound)
 
-pub overflow_cast-f : goal.overflow_cast-f
-overflow_cast-f c = omega (arith, sent_field c.args.fields.now _ c.requires.table_value _ (within _ _ c.requires.k_bound c.loop-q-test.true))
-
 pub overflow_mul-x : goal.overflow_mul-x
 overflow_mul-x c = omega (arith, shifted_room _ _ _ c.loop-q.invariant c.loop-q-test.true)
-
-pub offset_bounds-fields-f : goal.offset_bounds-fields-f
-offset_bounds-fields-f c = omega (arith, sent_field c.args.fields.now _ c.requires.table_value _ (within _ _ c.requires.k_bound c.loop-q-test.true), c.requires.fields_len)
 
 pub bounds-fields-f : goal.bounds-fields-f
 bounds-fields-f c = omega (arith, sent_field c.args.fields.now _ c.requires.table_value _ (within _ _ c.requires.k_bound c.loop-q-test.true), c.requires.fields_len)

@@ -1,5 +1,5 @@
 -- `packer::byte_at` meets its contract. The loop's invariant: the bits passed are shifted in, the last of them lowest.
-use Prim.Native.Nat.{◌-◌, ◌*◌}
+use Prim.Native.Nat.{◌*◌}
 use lib.ListN.{get_or}
 use Rattle.frame.specs.Frame.{sent}
 use Rattle.frame.proofs.Packed.{Shifted}
@@ -8,6 +8,3 @@ use Rattle.packer.proofs.byte_at.Given as goal
 
 abbrev pub invariant-loop-q : goal.invariant-loop-q
 invariant-loop-q l = Shifted (sent (λ f. get_or l.fields f 0)) (sent_small (λ f. get_or l.fields f 0)) (8 * l.k) l.q l.x
-
-abbrev pub decreases-loop-q : goal.decreases-loop-q
-decreases-loop-q l = 8 - l.q

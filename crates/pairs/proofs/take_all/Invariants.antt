@@ -1,16 +1,9 @@
 -- `pairs::take_all` meets its contract. The loops' invariants: the places passed hold the indices of their fields.
-use Prim.Native.Nat.{◌-◌}
 use Rattle.pairs.proofs.Pairs.{TakenLsp, TakenSubframes}
 use Rattle.pairs.proofs.take_all.Given as goal
 
 abbrev pub invariant-loop-k : goal.invariant-loop-k
-invariant-loop-k l = TakenLsp l.bytes l.k l.lsp
+invariant-loop-k l = TakenLsp l.bytes l.k l.index-items
 
 abbrev pub invariant-loop-n : goal.invariant-loop-n
-invariant-loop-n l = TakenSubframes l.bytes l.n l.subframes
-
-abbrev pub decreases-loop-k : goal.decreases-loop-k
-decreases-loop-k l = 10 - l.k
-
-abbrev pub decreases-loop-n : goal.decreases-loop-n
-decreases-loop-n l = 16 - l.n
+invariant-loop-n l = TakenSubframes l.bytes l.n l.index-items

@@ -1,11 +1,7 @@
 -- `parity::data_number` meets its contract. The loop's invariant: none of the numbers passed is that of the bit.
-use Prim.Native.Nat.{◌-◌}
 use Rattle.laws.proofs.Lowest.{NoneUpTo}
 use Rattle.frame.proofs.Corrections.{here}
 use Rattle.parity.proofs.data_number.Given as goal
 
 abbrev pub invariant-loop-k : goal.invariant-loop-k
 invariant-loop-k l = NoneUpTo (here l.f l.i) l.k
-
-abbrev pub decreases-loop-k : goal.decreases-loop-k
-decreases-loop-k l = 15 - l.k

@@ -1,10 +1,10 @@
 use Rattle.passes.proofs.Passes.{start_sound, start_refused}
 use Rattle.passes.proofs.start.Goals as goal
 
-pub returns-in-Sound : goal.returns-in-Sound
-returns-in-Sound c = start_sound _ _ c.walk_through-walked.ensures c.in-Sound.is
+pub returns-in-Ok : goal.returns-in-Ok
+returns-in-Ok c = start_sound _ _ c.walk_through-walked.ensures c.in-Ok.is
     c.begun.ensures
 
-pub returns-in-Refused : goal.returns-in-Refused
-returns-in-Refused c = start_refused _ _ c.walk_through-walked.ensures c.in-Refused.is
-    c.begun-in-Refused.ensures
+pub returns-in-Err : goal.returns-in-Err
+returns-in-Err c = start_refused _ _ c.walk_through-walked.ensures c.in-Err.is
+    c.begun-in-Err.ensures

@@ -1,16 +1,17 @@
-use Rattle.passes.proofs.Through.{going_start, going_on, going_stays, going_done}
+use mathlib.Core.Path.{◌∙◌, ap}
+use native.Mathlib.Omega.{arith}
+use Rattle.passes.specs.Pass.{pass_at}
+use Rattle.passes.proofs.Through.{going_start, going_on, going_stays}
 use Rattle.recording.proofs.pass_after.Goals as goal
 
-pub loop-ahead-init : goal.loop-ahead-init
-loop-ahead-init c = going_start _ _ _ c.requires
+pub loop-init : goal.loop-init
+loop-init c = going_start _ _ c.requires
 
 pub returns-then-step-pass : goal.returns-then-step-pass
-returns-then-step-pass c =
-    going_stays c.loop-ahead.invariant c.next-step.ensures c.if-step-pass.true
+returns-then-step-pass c = going_stays c.loop.invariant c.next-step.ensures c.if-step-pass.true (omega arith)
 
-pub loop-ahead-preserved : goal.loop-ahead-preserved
-loop-ahead-preserved c =
-    going_on c.loop-ahead.invariant c.next-step.ensures c.loop-ahead-test.true
+pub loop-preserved : goal.loop-preserved
+loop-preserved c = going_on c.loop.invariant c.next-step.ensures
 
 pub returns : goal.returns
-returns c = going_done c.loop-ahead.invariant c.loop-ahead-test.false
+returns c = c.loop.invariant.here ∙ ap (pass_at _ _) (omega arith)

@@ -12,8 +12,8 @@ pub overflow_add-from : goal.overflow_add-from
 overflow_add-from c =
     omega (arith, rest_within _ _ _ c.requires.frames_in_bounds c.if-frames-eq0.false, c.requires.s_len_bound)
 
-pub overflow_add-to : goal.overflow_add-to
-overflow_add-to c = omega (arith, rest_within _ _ _ c.requires.frames_in_bounds c.if-frames-eq0.false, c.requires.s_len_bound)
+pub overflow_add-from-2 : goal.overflow_add-from-2
+overflow_add-from-2 c = omega (arith, rest_within _ _ _ c.requires.frames_in_bounds c.if-frames-eq0.false, c.requires.s_len_bound)
 
 pub slice_bounds-put_voice-end : goal.slice_bounds-put_voice-end
 slice_bounds-put_voice-end c =

@@ -2,10 +2,6 @@ use native.Mathlib.Omega.{arith}
 use Rattle.salvage.proofs.Returns.{changes_told}
 use Rattle.salvage.proofs.changes_by.Goals as goal
 
-pub overflow_sub-result : goal.overflow_sub-result
-overflow_sub-result c = omega (arith, c.least-kept.ensures)
-
 pub returns : goal.returns
 returns c =
-    let x = c.args in changes_told x.long x.frames x.end (omega (arith, c.least-kept.ensures)) (omega arith) (omega arith)
-    (omega arith)
+    let x = c.args in changes_told x.long x.frames x.end (omega arith) (omega arith) (omega arith) (omega arith)

@@ -1,9 +1,6 @@
--- `sheet::run` is safe, and ends: each call moves the place on, and stays within the bytes.
-use Rattle.std.proofs.Common.{◌-◌, ◌≤◌, length}
+-- `sheet::run` is safe, and ends: each call takes the byte of its kind, at least, off what is left.
+use Rattle.std.proofs.Common.{length}
 use Rattle.sheet.proofs.run.Given as goal
 
-abbrev pub invariant-loop-at : goal.invariant-loop-at
-invariant-loop-at l = l.at ≤ length l.s
-
-abbrev pub decreases-loop-at : goal.decreases-loop-at
-decreases-loop-at l = length l.s - l.at
+abbrev pub decreases-loop-kind : goal.decreases-loop-kind
+decreases-loop-kind g l = length l.left

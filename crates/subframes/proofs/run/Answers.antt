@@ -5,4 +5,4 @@ use lib.Seq.{length-take-le}
 use Rattle.subframes.proofs.run.Goals as goal
 
 pub slice_bounds-made-end-2 : goal.slice_bounds-made-end-2
-slice_bounds-made-end-2 c = sym (length-take-le _ _ (omega arith))
+slice_bounds-made-end-2 g c = sym (length-take-le _ _ (omega arith))

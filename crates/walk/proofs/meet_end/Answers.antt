@@ -1,9 +1,9 @@
 use mathlib.Core.Path.{ap}
-use Rattle.blocks.specs.declared.Moved.TheVariants.{Done}
+use Rattle.std.specs.declared.ops.ControlFlow.TheVariants.{Break}
 use Rattle.walk.proofs.meet_end.Goals as goal
 
 pub ending_at-requires : goal.ending_at-requires
 ending_at-requires c = c.requires
 
 pub returns : goal.returns
-returns c = ap Done c.ending_at.ensures
+returns c = ap Break c.ending_at.ensures

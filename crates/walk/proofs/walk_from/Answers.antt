@@ -11,15 +11,15 @@ advance-requires c = record { s_len_bound = c.requires.s_len_bound; frames_bound
 
 pub loop-next-smaller : goal.loop-next-smaller
 loop-next-smaller c =
-    let f = step_further _ _ _ (sym c.advance.ensures ∙ c.in-On.is) in
+    let f = step_further _ _ _ (sym c.advance.ensures ∙ c.in-Continue.is) in
     omega (arith, f.on, f.within)
 
 pub loop-next-preserved : goal.loop-next-preserved
 loop-next-preserved c =
     walking_on _ c.loop-next.invariant
-    (sym c.advance.ensures ∙ c.in-On.is)
+    (sym c.advance.ensures ∙ c.in-Continue.is)
 
-pub returns-in-Done : goal.returns-in-Done
-returns-in-Done c =
+pub returns-in-Break : goal.returns-in-Break
+returns-in-Break c =
     walking_done _ c.loop-next.invariant
-    (sym c.advance.ensures ∙ c.in-Done.is)
+    (sym c.advance.ensures ∙ c.in-Break.is)

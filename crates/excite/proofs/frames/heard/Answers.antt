@@ -1,17 +1,12 @@
-use mathlib.Core.Path.{sym}
-use mathlib.Core.Bool.{true≢false}
+use Rattle.std.proofs.Common.{arith}
 use Rattle.excite.proofs.Runs.{within_none, within_more, within_all}
 use Rattle.excite.proofs.frames.heard.Goals as goal
 
 pub loop-n-init : goal.loop-n-init
-loop-n-init c = within_none _ _ _
-
-pub returns-then-not-made : goal.returns-then-not-made
-returns-then-not-made c e = absurd (true≢false (sym e))
+loop-n-init g c = within_none _ _ _
 
 pub loop-n-preserved : goal.loop-n-preserved
-loop-n-preserved c =
-    within_more c.loop-n.invariant c.loop-n-test.true c.subframe-made.ensures
+loop-n-preserved g c = within_more c.loop-n.invariant (omega arith) c.subframe.ensures
 
 pub returns : goal.returns
-returns c e = within_all c.loop-n.invariant c.loop-n-test.false
+returns g c = within_all c.loop-n.invariant (omega arith)

@@ -1,10 +1,6 @@
 -- `excite::frames::heard` meets its contract. The loop's invariant: the register is the one after the subframes passed.
-use Prim.Native.Nat.{◌-◌}
 use Rattle.excite.proofs.Runs.{Within}
 use Rattle.excite.proofs.frames.heard.Given as goal
 
 abbrev pub invariant-loop-n : goal.invariant-loop-n
-invariant-loop-n l = Within l.delays l.indices l.initial.register l.n l.register
-
-abbrev pub decreases-loop-n : goal.decreases-loop-n
-decreases-loop-n l = 4 - l.n
+invariant-loop-n g l = Within l.delays l.indices l.initial.register l.n l.register

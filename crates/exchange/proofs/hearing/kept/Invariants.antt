@@ -1,9 +1,0 @@
--- `exchange::hearing::kept` is safe and ends: nothing has to hold from turn to turn.
-use Prim.Native.Nat.{◌-◌}
-use Rattle.exchange.proofs.hearing.kept.Given as goal
-
-abbrev pub invariant-loop-k : goal.invariant-loop-k
-invariant-loop-k l = Unit {0}
-
-abbrev pub decreases-loop-k : goal.decreases-loop-k
-decreases-loop-k l = 10 - l.k

@@ -1,9 +1,0 @@
--- `hear::frames::all` is safe and ends: nothing has to hold from frame to frame.
-use Prim.Native.Nat.{◌-◌}
-use Rattle.hear.proofs.frames.all.Given as goal
-
-abbrev pub invariant-loop-k : goal.invariant-loop-k
-invariant-loop-k l = Unit {0}
-
-abbrev pub decreases-loop-k : goal.decreases-loop-k
-decreases-loop-k l = l.count - l.k

@@ -1,9 +1,0 @@
--- `sheet::words::as_one` is safe: it stays within the book.
-use Rattle.std.proofs.Common.{◌-◌, ◌≤◌}
-use Rattle.sheet.proofs.words.as_one.Given as goal
-
-abbrev pub invariant-loop-at : goal.invariant-loop-at
-invariant-loop-at l = l.at ≤ 12289
-
-abbrev pub decreases-loop-at : goal.decreases-loop-at
-decreases-loop-at l = 12289 - l.at

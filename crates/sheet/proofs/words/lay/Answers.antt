@@ -1,5 +1,0 @@
-use Rattle.std.proofs.Common.{arith}
-use Rattle.sheet.proofs.words.lay.Goals as goal
-
-pub loop-at-init : goal.loop-at-init
-loop-at-init c = omega (arith, c.least-end.ensures)
