@@ -9,10 +9,10 @@ pub fn averages(previous: [u16; 10], present: [u16; 10]) -> [u32; 40]
     ensures { result ≡ averages_of previous present }
 {
     let mut eighths = [0u32; 40];
-    for (k, eighth) in eighths.iter_mut().enumerate() {
-        let n = k / 10 + 1;
-        let i = k % 10;
-        *eighth = average(n as u32, previous[i], present[i]);
+    for n in 0..4 {
+        for i in 0..10 {
+            eighths[10 * n + i] = average(n as u32 + 1, previous[i], present[i]);
+        }
     }
     eighths
 }
