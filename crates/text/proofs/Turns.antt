@@ -1,17 +1,16 @@
--- What the functions here lay, and the loops of `decimals`: how each starts, a turn of it, and how it ends.
+-- The loops of the functions here and of `decimals`: how each starts, a turn of it, and how it ends.
 -- Assumes nothing.
-use mathlib.Core.Path.{◌≡◌, ◌∙◌, sym, ap, ap₂, subst}
-use mathlib.Core.List.{List, [], ◌∷◌, ◌++◌}
+use mathlib.Core.Path.{◌≡◌, ◌∙◌, sym, ap, subst}
+use mathlib.Core.List.{List, [], ◌∷◌}
 use Prim.Native.Nat.{ℕ, suc, ◌+◌, ◌-◌, ◌/◌, ◌%◌, ◌<◌, ◌≤◌, min}
 use native.Mathlib.Omega.{arith}
 use native.Mathlib.Decide.{dec_le}
+use native.Mathlib.Numerals.{add-one}
 use lib.ListN.{length, take, drop, get_or, set, drop_of_length-le}
-use lib.Seq.{drop-cons, length-take-le, take_all}
-use borrow.Rule.Slice.PartMut.{put_mid}
-use Rattle.std.proofs.lemmas.Slice.{put_mid-paste}
+use lib.Seq.{take-suc, drop-cons, length-take-le}
 use Rattle.text.specs.Decimal.{decimal, digit}
 use Rattle.text.specs.Laid.{laid, after}
-use Rattle.text.proofs.Laid.{laid_none, laid_past, laid_one, laid_cons, laid_room}
+use Rattle.text.proofs.Laid.{length_laid, laid_none, laid_past, laid_one, laid_cons, laid_room, laid_then}
 use Rattle.text.proofs.Decimal.{Left, left_all}
 use Rattle.text.proofs.Decimal.{left_digit, left_less}
 
@@ -23,22 +22,45 @@ past o at t h = (omega arith, sym (laid_past o at t h))
 pub byte : (o : List ℕ) (at b : ℕ) → at < length o → (at + 1 ≡ after o at (b ∷ [])) × (set o at b ≡ laid o at (b ∷ []))
 byte o at b h = (omega arith, laid_one o at b h)
 
--- of a word w as many bytes as there is room for, copied into their place
-pub word_laid : (o : List ℕ) (at : ℕ) (w : List ℕ) {size k : ℕ} {part : List ℕ} → at < length o
-    → size ≡ min (length w) (length o - at) → k ≡ size → part ≡ take size w
-    → (at + size ≡ after o at w) × (put_mid at k o part ≡ laid o at w)
-unfolding laid
-word_laid o at w {size} {k} {part} h m e p = (
-  omega arith,
-  put_mid-paste at k o part (take size w) size p (sym e) (sym long)
-      ∙ ap₂ (λ (s : List ℕ) (n : ℕ). take at o ++ s ++ drop (at + n) o)
-      (take_all size (take size w) (omega (arith, long)) ∙ sym (take_all (length o - at) (take size w) (omega (arith, long))))
-      (sym long)
-      ∙ laid_room o at w size (omega arith),
-)
-  where
-    long : length (take size w) ≡ size
-    long = length-take-le size w (omega arith)
+-- of a word w as many bytes as there is room for, and of those the first i laid
+pub record Words (o : List ℕ) (at : ℕ) (w : List ℕ) (size i : ℕ) (l : List ℕ) : Type 0 where
+  pub starts : at < length o
+  pub most : size ≡ min (length w) (length o - at)
+  pub upto : i ≤ size
+  pub here : l ≡ laid o at (take i w)
+
+-- at the start none
+pub word_none : (o : List ℕ) (at : ℕ) (w : List ℕ) (size : ℕ) → at < length o → size ≡ min (length w) (length o - at)
+    → Words o at w size 0 o
+word_none o at w size h e = record { starts = h; most = e; upto = omega arith; here = sym (laid_none o at) }
+
+module _ {o : List ℕ} {at : ℕ} {w : List ℕ} {size i : ℕ} {l : List ℕ} (p : Words o at w size i l) where
+  -- the buffer is as long as it was
+  pub word_length : length l ≡ length o
+  word_length = ap length p.here ∙ length_laid o at (take i w)
+
+  -- a turn lays one byte
+  pub word_more : i < size → Words o at w size (i + 1) (set l (at + i) (get_or w i 0))
+  word_more h =
+      let long : length (take i w) ≡ i = length-take-le i w (omega (arith, p.most)) in
+      let place : at + i ≡ after o at (take i w) = omega (arith, p.most, p.starts) in
+      let room : at + i < length (laid o at (take i w)) =
+      omega (arith, p.most, p.starts, length_laid o at (take i w)) in
+      record {
+        starts = p.starts;
+        most = p.most;
+        upto = omega arith;
+        here = ap (λ (s : List ℕ). set s (at + i) (get_or w i 0)) p.here
+            ∙ laid_one (laid o at (take i w)) (at + i) (get_or w i 0) room
+            ∙ ap (λ (k : ℕ). laid (laid o at (take i w)) k (get_or w i 0 ∷ [])) place
+            ∙ laid_then o at (take i w) (get_or w i 0 ∷ [])
+            ∙ ap (laid o at) (sym (take-suc w i 0 (omega (arith, p.most))))
+            ∙ ap (λ (k : ℕ). laid o at (take k w)) (sym (add-one i));
+      }
+
+  -- at the end the word is laid, as much of it as there is room for
+  pub word_all : size ≤ i → (at + size ≡ after o at w) × (l ≡ laid o at w)
+  word_all h = (omega (arith, p.most, p.starts), p.here ∙ laid_room o at w i (omega (arith, p.most)))
 
 -- the digits of n that have no room are passed over from the last, down to the first i
 pub record Passed (o : List ℕ) (at n kept i rest : ℕ) : Type 0 where

@@ -28,7 +28,10 @@ pub fn put_word(out: &mut [u8], at: usize, word: &[u8]) -> usize
         return long;
     }
     let size = least(word.len(), long - at);
-    out[at..at + size].copy_from_slice(&word[..size]);
+    // not by `copy_from_slice`: DECISIONS, "What the archive asks the C library for"
+    for i in 0..size {
+        out[at + i] = word[i];
+    }
     at + size
 }
 
