@@ -32,8 +32,8 @@ fn written_in(case: &[u8], buffer: &mut [i8]) -> u64 {
 // 62 elements as one number.
 fn as_one(elements: [i8; 62], start: u64) -> u64 {
     let mut sum = start;
-    for element in elements {
-        sum = number::with(sum, sign(element));
+    for element in &elements {
+        sum = number::with(sum, sign(*element));
     }
     sum
 }

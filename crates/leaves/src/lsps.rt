@@ -19,8 +19,8 @@ pub fn number(case: &[u8]) -> u64 {
 // Forty numbers as one.
 fn as_one(averages: [u32; 40], start: u64) -> u64 {
     let mut sum = start;
-    for average in averages {
-        sum = number::with(sum, u64::from(average));
+    for average in &averages {
+        sum = number::with(sum, u64::from(*average));
     }
     sum
 }

@@ -13,12 +13,28 @@ mod room;
 
 ghost use Rattle.std.specs.Prelude.{◌≤◌, length};
 
-use std::io::{self, Write};
+use std::io::{self, Read, Write};
 
 fn main(rt: HostRuntime) {
     let mut cases = [0u8; 65536];
-    let n = input::read_all(&mut rt.stdin(), &mut cases).unwrap_or(0);
+    let n = read_what_comes(&mut rt.stdin(), &mut cases);
     let _ = run(&mut rt.stdout(), &cases[..n]);
+}
+
+// Reads until the buffer is full, the input ends or a read fails, and answers how many bytes came before that.
+fn read_what_comes(stdin: &mut impl Read, buf: &mut [u8]) -> usize
+    ensures { result ≤ length buf.new }
+{
+    let mut done = 0;
+    // no index is counted: each read says how far the buffer is filled
+    while done < buf.len() {
+        let more = stdin.read(&mut buf[done..]).unwrap_or(0);
+        if more == 0 {
+            return done;
+        }
+        done += more;
+    }
+    done
 }
 
 // The first four bytes tell how many rounds more there are than one, and each case is printed where there are none. Last

@@ -1,0 +1,9 @@
+-- At each turn the bytes read so far lie within the buffer, whose length stays.
+use Rattle.std.proofs.Common.{length, ◌-◌, ◌≤◌}
+use Rattle.leaves.proofs.read_what_comes.Given as goal
+
+abbrev pub invariant-loop-done : goal.invariant-loop-done
+invariant-loop-done g l = l.done ≤ length l.buf
+
+abbrev pub decreases-loop-done : goal.decreases-loop-done
+decreases-loop-done g l = length l.initial.buf - l.done
