@@ -4,14 +4,15 @@
     reached.py
 
 The programs are the crates with a `main`, which `rt ci` runs and holds to their files `stdout`, and the C programs below, which call the
-functions of the archive. What is in the archive stands in the parts that `gateway_c` and its like are, and they call the libraries. From them the calls are followed through the sources. The last line is `N cases, M faults`; the exit is 1 where a
-public function is not reached.
+functions of the archive. What is in the archive stands in the parts that `gateway_c` and its like are, and they call the libraries.
+From them the calls are followed through the sources. What the crate of exports of outside/belt names has to be there too: the gate does
+not build it. The last line is `N cases, M faults`; the exit is 1 where a public function is not reached or a name is not there.
 """
 
 import re
 import sys
 
-from sources import ROOT, Sources
+from sources import CRATES, ROOT, Sources, masked
 
 # the C programs, each with the script of the gate that runs it
 C_PROGRAMS = {
@@ -38,6 +39,23 @@ def called_from_c(faults):
     return found
 
 
+def named_by_the_belt(listed, faults):
+    """The names that the belt unit's exports take from the libraries, functions, types and their cases; those that are not there are faults."""
+    exports = ROOT / "outside/belt/exports.txt"
+    text, cases = masked(exports.read_text(encoding="utf-8")), {}
+    names = {(crate, name) for crate, name in re.findall(r"\b([a-z]\w*)::(\w+)", text) if crate in listed}
+    for crate, name in sorted(names):
+        source = masked((CRATES / crate / "src/lib.rt").read_text(encoding="utf-8"))
+        there = re.search(rf"\bpub (?:fn|struct|enum|const) {name}\b(?:[^{{;]*\{{([^}}]*)\}})?", source)
+        if not there:
+            faults.append(f"{exports.relative_to(ROOT)}: there is no {crate}::{name}")
+        elif name[0].isupper():
+            cases[name] = set(re.findall(r"\b[A-Z]\w*", there[1] or ""))
+    asked = {(name, case) for name, case in re.findall(r"\b([A-Z]\w*)::([A-Z]\w*)", text) if name in cases}
+    faults += [f"{exports.relative_to(ROOT)}: {name} has no case {case}" for name, case in sorted(asked) if case not in cases[name]]
+    return len(names) + len(asked)
+
+
 def main():
     sources = Sources()
     faults = list(sources.faults)
@@ -53,10 +71,11 @@ def main():
                 unclear = sorted(str(item) for item in reached if function in item.unclear)
                 told = f"; `.{function.name}(` in {', '.join(unclear)} may mean it or another" if unclear else ""
                 faults.append(f"{function} is reached by no program{told}")
+    cases += named_by_the_belt(sources.listed, faults)
     for fault in faults:
         print(fault)
     print(f"programs: {', '.join(item.crate for item in programs)}, {', '.join(C_PROGRAMS)}")
-    print(f"public functions: {cases} cases, {len(faults)} faults")
+    print(f"public functions and the belt unit's names: {cases} cases, {len(faults)} faults")
     return 1 if faults or not cases else 0
 
 

@@ -77,6 +77,10 @@ exported=$(cd .. && for c in $crates; do sed -n 's/^pub extern "C" fn \([a-z_]*\
 says "the names in the archive" "$exported" sh -c '"$0" -g --defined-only "$1" | sed -n "s/^[0-9a-f]* [A-Za-z] //p" | LC_ALL=C sort' \
     "$NM" "$tmp/usr/lib/liboatlantern.a"
 
+# and of the C library it asks for these two alone
+says "what the archive asks for" "memcpy
+memset" sh -c '"$0" -u "$1" | sed -n "s/^ *U //p" | LC_ALL=C sort -u' "$NM" "$tmp/usr/lib/liboatlantern.a"
+
 # what is installed anew takes the place of what was there, also of a link to the command
 ln -sf oatlantern "$tmp/usr/bin/oatlantern-list"
 holds "make install once more" make install PREFIX="$tmp/usr"
