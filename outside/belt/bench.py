@@ -4,7 +4,8 @@
     outside/belt/bench.py [TREE]
 
 TREE is a checkout, this one if not said, so that one commit can be held beside another. Its leaf functions are proved
-and built into an archive for C, by a crate that is made for it alone (exports.txt); `size` tells the archive's bytes.
+and built into an archive for C, by a crate that is made for it alone (its exports.txt, or this one where it has none);
+`size` tells the archive's bytes.
 Then a program in C (calls.c) calls `meanings::meaning` of the archive, and what stands in for it in plain C (plain.c):
 once with the twelfths of a rank in a table, once worked out. On x86-64 a figure is nanoseconds a call, the best of
 several; on any other machine it is instructions a call, as the emulator counts them. What calling alone takes is
@@ -64,7 +65,8 @@ def archived(tree, folder):
             if (crate / part).is_dir():
                 shutil.copytree(crate / part, folder / "crates" / crate.name / part)
     (folder / "crates/belt/src").mkdir(parents=True)
-    shutil.copy(HERE / "exports.txt", folder / "crates/belt/src/lib.rt")
+    own = tree / "outside/belt/exports.txt"
+    shutil.copy(own if own.is_file() else HERE / "exports.txt", folder / "crates/belt/src/lib.rt")
     (folder / "crates.txt").write_text(f"{(tree / 'crates.txt').read_text(encoding='utf-8')}\nbelt staticlib: {USES}\n", encoding="utf-8")
     done = subprocess.run(["rt", "lib"], cwd=folder / "crates/belt", capture_output=True, text=True, check=False)
     if done.returncode:
