@@ -7,9 +7,12 @@ use std::io::{self, Write};
 pub fn told(out: &mut impl Write, correction: Correction) -> io::Result<()> {
     say::number(out, parity::number_for(correction))?;
     match correction {
-        Correction::Clean => write!(out, "0 "),
-        Correction::Parity(_) => write!(out, "1 "),
-        Correction::Data(f, i) => write!(out, "2 {f} {i} "),
+        Correction::Clean => say::number(out, 0),
+        Correction::Parity(_) => say::number(out, 1),
+        Correction::Data(f, i) => {
+            say::number(out, 2)?;
+            write!(out, "{f} {i} ")
+        }
     }
 }
 

@@ -9,10 +9,11 @@ mod hearing;
 mod places;
 mod say;
 
+use output::Pieces;
 use std::io::{self, Read, Write};
 
 fn main(rt: HostRuntime) {
-    let _ = all(&mut rt.stdin(), &mut rt.stdout());
+    let _ = all(&mut rt.stdin(), &mut Pieces { out: rt.stdout() });
 }
 
 // Case after case, of 128 bytes each. Nothing says that the input ends, so there are as many turns as no input uses up.

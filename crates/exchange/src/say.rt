@@ -1,4 +1,4 @@
-// What is printed: numbers, each followed by a space.
+// What is printed: numbers, each followed by a space, which is a piece of its own.
 use std::io::{self, Write};
 
 // A number.
@@ -6,9 +6,11 @@ pub fn number(out: &mut impl Write, n: usize) -> io::Result<()> {
     write!(out, "{n} ")
 }
 
-// A result of the C boundary, in twelve places.
+// A result of the C boundary, in twelve places, as one piece.
 pub fn result(out: &mut impl Write, x: i32) -> io::Result<()> {
-    write!(out, "{x:<12}")
+    let mut places = [b' '; 12];
+    decimals::put_signed(&mut places, 0, x);
+    out.write_all(&places)
 }
 
 // Numbers, one after the other.

@@ -13,12 +13,13 @@ mod room;
 
 ghost use Rattle.std.specs.Prelude.{◌≤◌, length};
 
+use output::Pieces;
 use std::io::{self, Read, Write};
 
 fn main(rt: HostRuntime) {
     let mut cases = [0u8; 65536];
     let n = read_what_comes(&mut rt.stdin(), &mut cases);
-    let _ = run(&mut rt.stdout(), &cases[..n]);
+    let _ = run(&mut Pieces { out: rt.stdout() }, &cases[..n]);
 }
 
 // Reads until the buffer is full, the input ends or a read fails, and answers how many bytes came before that.

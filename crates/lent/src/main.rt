@@ -7,6 +7,7 @@
 ghost use Rattle.std.specs.Prelude.{◌≤◌, length};
 
 use kept::Unsalvaged;
+use output::Pieces;
 use salvage::Salvaged;
 use std::io::{self, Write};
 
@@ -16,7 +17,7 @@ fn main(rt: HostRuntime) {
         return;
     };
     let mut buffer = filled();
-    let _ = run(&mut rt.stdout(), &case[..n], &mut buffer);
+    let _ = run(&mut Pieces { out: rt.stdout() }, &case[..n], &mut buffer);
 }
 
 // A buffer of 65,536 bytes, of which a case is lent the first.

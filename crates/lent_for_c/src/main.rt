@@ -6,6 +6,7 @@
 
 ghost use Rattle.std.specs.Prelude.{◌≤◌};
 
+use output::Pieces;
 use std::io::{self, Write};
 
 fn main(rt: HostRuntime) {
@@ -14,7 +15,7 @@ fn main(rt: HostRuntime) {
         return;
     };
     let mut buffer = filled();
-    let _ = run(&mut rt.stdout(), &case[..n], &mut buffer);
+    let _ = run(&mut Pieces { out: rt.stdout() }, &case[..n], &mut buffer);
 }
 
 // A buffer of 131,072 bytes, of which a case is lent the first.
@@ -47,7 +48,8 @@ fn listed_in(
 fn salvaged(out: &mut impl Write, recording: &[u8], buffer: &mut [u8]) -> io::Result<()> {
     let mut changes = [9; 5];
     let result = mender::oatlantern_salvage(recording, buffer, &mut changes);
-    write!(out, "salvage {result}")?;
+    out.write_all(b"salvage")?;
+    say_result(out, result)?;
     say_five(out, &changes)?;
     out.write_all(b"\n")?;
     out.write_all(buffer)
@@ -58,10 +60,19 @@ fn listed(out: &mut impl Write, recording: &[u8], buffer: &mut [u8]) -> io::Resu
     let mut end = [9; 1];
     let mut told = [9; 5];
     let result = lister::oatlantern_list(recording, buffer, &mut end, &mut told);
-    write!(out, "list {result} {}", end[0])?;
+    out.write_all(b"list")?;
+    say_result(out, result)?;
+    write!(out, " {}", end[0])?;
     say_five(out, &told)?;
     out.write_all(b"\n")?;
     out.write_all(buffer)
+}
+
+// A result behind a space, as one piece.
+fn say_result(out: &mut impl Write, res: i32) -> io::Result<()> {
+    let mut places = [b' '; 16];
+    let end = decimals::put_signed(&mut places, 1, res);
+    out.write_all(&places[..end])
 }
 
 // Numbers, each behind a space.

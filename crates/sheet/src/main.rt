@@ -8,6 +8,7 @@ mod call;
 mod said;
 mod words;
 
+use output::Pieces;
 use std::io::{self, Write};
 
 fn main(rt: HostRuntime) {
@@ -16,7 +17,7 @@ fn main(rt: HostRuntime) {
         return;
     };
     let mut book = [0u32; tally::WORDS];
-    let _ = run(&mut rt.stdout(), &calls[..n], &mut book);
+    let _ = run(&mut Pieces { out: rt.stdout() }, &calls[..n], &mut book);
 }
 
 // Makes call after call, to the end or to one that is cut or of no kind.
